@@ -20,8 +20,7 @@ use Rattle.pep440_calls.specs.CallerBytes.{BytesDenote, RejectsBytes}
 use Rattle.std.specs.declared.cmp.Ordering.TheVariants.{Less, Equal, Greater}
 use Rattle.std.proofs.lemmas.Bool.{both_ways}
 use Rattle.pep440_pick.proofs.Once.{preference_total}
-use Rattle.pep440_pick.specs.Greatest.{Greatest, is_above}
-use Rattle.pep440_pick.specs.Newest.{preference}
+use Rattle.pep440_pick.specs.Newest.{Greatest, is_above, preference}
 use Rattle.pep440_rs.specs.LiteralMatching.{list_matches_literally}
 use Rattle.pep440_rs.specs.Matching.{any_prerelease}
 use Rattle.pep440_rs.specs.Specifiers.{Spec}

@@ -21,8 +21,7 @@ use Rattle.pep440_calls.specs.declared.batch.Encoding.TheVariants.{Compiled, Sor
 use Rattle.pep440_calls.specs.declared.batch.Entry.{Entry}
 use Rattle.pep440_calls.specs.declared.fault.Fault.{Fault}
 use Rattle.std.specs.Option.{option_map}
-use Rattle.pep440_pick.specs.Greatest.{Greatest}
-use Rattle.pep440_pick.specs.Newest.{preference}
+use Rattle.pep440_pick.specs.Newest.{Greatest, preference}
 use Rattle.pep440_rs.specs.Prereleases.{requests_prereleases}
 use Rattle.pep440_calls.specs.declared.batch.BatchError.TheVariants as stop
 use Rattle.pep440_calls.specs.declared.fault.Fault.TheVariants as fault

@@ -1,8 +1,7 @@
 //! The newest version of a batch that a list matches.
 ghost use Rattle.std.specs.Prelude.{IfOk, IfSome, MatchOption, false, map, not, true, ◌||◌, ◌≡◌, ◌⊎◌};
 ghost use Rattle.std.specs.Ordering.{is_ge, is_lt};
-ghost use Rattle.pep440_pick.specs.Greatest.{Greatest, is_above};
-ghost use Rattle.pep440_pick.specs.Newest.{preference};
+ghost use Rattle.pep440_pick.specs.Newest.{Greatest, is_above, preference};
 ghost use Rattle.pep440_rs.specs.LiteralMatching.{list_matches_literally};
 ghost use Rattle.pep440_rs.specs.Matching.{any_prerelease};
 ghost use Rattle.pep440_version.specs.Key.{record_cmp};

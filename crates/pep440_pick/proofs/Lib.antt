@@ -2,7 +2,6 @@ pub mod Normal
 pub mod Choosing
 pub mod Extras
 pub mod Parts
-pub mod Positions
 pub mod Tells
 pub mod Whole
 pub mod Joined

@@ -1,15 +1,16 @@
--- The values of a requirement and of its error, apart from their address in memory.
-use Rattle.std.specs.Prelude.{◌≡◌, ℕ, List, Option, option_map, Some, None, Result, Ok, Err, IfSome, map, string_bytes}
+-- The values of a requirement and of its error, apart from their address in memory, and the messages of errors.
+use Rattle.std.specs.Prelude.{◌≡◌, ℕ, List, Option, option_map, Some, None, Result, Ok, Err, IfSome, map, string_bytes, codes}
 use Rattle.pep440_rs.specs.Lists.ListResults.{line_of, list_kind_of}
 use Rattle.pep440_rs.specs.Lists.ListErrors.{list_rejection_of}
 use Rattle.pep440_rs.specs.Lists.ListGrammar.{PieceRejection, RejectsList}
 use Rattle.pep440_pick.specs.RequirementGrammar.{InvalidExtras, InvalidName, Marker, Needed, RequirementRejection, Specifiers, Unclosed, Url}
 use Rattle.pep440_pick.specs.RequirementReading.{RequirementPrefix, listed_extras, rejection_position}
 use Rattle.pep440_pick.specs.declared.error.RequirementError.{RequirementError}
-use Rattle.pep440_pick.specs.declared.error.RequirementError.TheVariants as error
 use Rattle.pep440_pick.specs.declared.error.RequirementParseError.{RequirementParseError}
 use Rattle.pep440_pick.specs.declared.requirement_parts.SplitRequirement.{SplitRequirement}
 use Rattle.pep440_pick.specs.declared.requirement.Requirement.{Requirement}
+use Rattle.pep440_rs.specs.Lists.ListErrorTexts.{list_rejection_text, list_text_of}
+use Rattle.pep440_pick.specs.declared.error.RequirementError.TheVariants as error
 
 -- the name, the extras and the members of the list
 abbrev pub needed : Requirement → Needed
@@ -51,3 +52,18 @@ ParsesPrefix (Err e) read = IfSome (requirement_rejection_of e.kind) (λ f. read
 -- the error is that of the list of this string
 abbrev pub IsOfList : List ℕ → RequirementRejection → Type 0
 IsOfList text g = (f : PieceRejection) × RejectsList text f × (g ≡ Specifiers text f)
+
+-- the message of a reason
+abbrev pub requirement_rejection_text : RequirementRejection → List ℕ
+requirement_rejection_text Marker = codes "markers are not supported"
+requirement_rejection_text Url = codes "URLs are not supported"
+requirement_rejection_text InvalidName = codes "not a valid name"
+requirement_rejection_text InvalidExtras = codes "not valid extras"
+requirement_rejection_text Unclosed = codes "unclosed parenthesis"
+requirement_rejection_text (Specifiers list f) = list_rejection_text f list
+
+-- the message of an error
+abbrev pub requirement_text_of : RequirementError → Option (List ℕ)
+requirement_text_of (error.Specifiers e) = list_text_of (list_kind_of e) (line_of e)
+requirement_text_of error.OutOfMemory = Some (codes "out of memory")
+requirement_text_of e = option_map requirement_rejection_text (requirement_rejection_of e)

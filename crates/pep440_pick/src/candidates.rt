@@ -5,8 +5,7 @@ ghost use Rattle.std.specs.Ordering.{is_lt};
 ghost use Rattle.pep440_version.specs.Key.{record_cmp};
 ghost use Rattle.pep440_rs.specs.Matching.{any_prerelease};
 ghost use Rattle.pep440_rs.specs.declared.specifier.operator.Operator.TheVariants.{ExactEqual};
-ghost use Rattle.pep440_pick.specs.Greatest.{is_above};
-ghost use Rattle.pep440_pick.specs.Newest.{Newest, all_contain, positioned, preference};
+ghost use Rattle.pep440_pick.specs.Newest.{is_above, Newest, all_contain, positioned, preference};
 
 use pep440_rs::{Version, VersionSpecifiers};
 use std::alloc::{AllocError, Global};

@@ -1,7 +1,6 @@
 //! The errors of requirements, their positions and their messages.
 ghost use Rattle.std.specs.Prelude.{◌≡◌};
-ghost use Rattle.pep440_pick.specs.Requirements.{requirement_rejection_of};
-ghost use Rattle.pep440_pick.specs.RequirementTexts.{requirement_text_of};
+ghost use Rattle.pep440_pick.specs.Requirements.{requirement_rejection_of, requirement_text_of};
 ghost use Rattle.pep440_pick.specs.declared.error.RequirementError.TheVariants.{OutOfMemory};
 
 use pep440_rs::VersionSpecifiersParseError;

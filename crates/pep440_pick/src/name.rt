@@ -1,11 +1,13 @@
 //! Names of packages and of extras.
-ghost use Rattle.std.specs.Prelude.{◌≡◌, ◌∷◌, ◌&&◌, ◌<◌, ◌≤◌, [], length, IfSome};
+ghost use Rattle.std.specs.Prelude.{◌≡◌, ◌∷◌, ◌&&◌, ◌<◌, ◌≤◌, [], length, map, string_bytes, IfOk, IfSome};
 ghost use Rattle.std.specs.Char.{is_ascii_alphanumeric};
 ghost use Rattle.std.specs.List.{list_all, prefix_len};
 ghost use Rattle.std.specs.Option.{option_map_or};
 ghost use Rattle.pep440_version.specs.Grammar.{is_separator, starts};
 ghost use Rattle.pep440_version.specs.Rejections.{ends};
 ghost use Rattle.pep440_pick.specs.Names.{is_name, is_name_byte, normal, same_name};
+
+use std::alloc::{AllocError, Global};
 
 // `.`, `-` and `_`.
 fn is_separator(byte: u8) -> bool
@@ -105,4 +107,41 @@ pub fn same_name(one: &str, other: &str) -> bool
         right = right_rest;
     }
     next_byte(right).is_none()
+}
+
+/// The normal form of the name in these bytes, as `normalize_name`.
+///
+/// Allocates.
+pub fn normalize_bytes(alloc: Global, name: &[u8]) -> Result<Vec<u8>, AllocError>
+    ensures { IfOk result (λ text. text.items ≡ normal name.now) }
+{
+    let mut text = Vec::with_capacity(alloc, name.len())?;
+    let mut rest = name;
+    while let Some((byte, later)) = next_byte(rest) {
+        text.push(byte)?;
+        rest = later;
+    }
+    Ok(text)
+}
+
+/// The normal form of the name: it in lower case, with each run of `.`, `-` and `_` as one `-`.
+///
+/// Allocates.
+pub fn normalize_name(alloc: Global, name: &str) -> Result<Vec<u8>, AllocError>
+    ensures { IfOk result (λ text. text.items ≡ normal name.now) }
+{
+    normalize_bytes(alloc, name.as_bytes())
+}
+
+/// The normal form of each of the names, in order.
+///
+/// Allocates.
+pub fn normalize_names(alloc: Global, names: &[String]) -> Result<Vec<Vec<u8>>, AllocError>
+    ensures { IfOk result (λ found. map (λ n. n.items) found.items ≡ map normal (map string_bytes names.now)) }
+{
+    let mut found = Vec::new(alloc);
+    for name in names {
+        found.push(normalize_name(alloc, name.as_str())?)?;
+    }
+    Ok(found)
 }

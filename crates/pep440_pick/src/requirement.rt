@@ -4,7 +4,7 @@ ghost use Rattle.std.specs.List.{All};
 ghost use Rattle.pep440_rs.specs.Agreement.{HasOperand};
 ghost use Rattle.pep440_pick.specs.Allowed.{lists_of};
 ghost use Rattle.pep440_pick.specs.RequirementGrammar.{DerivesRequirement, Needed, RejectsRequirement, RequirementRejection};
-ghost use Rattle.pep440_pick.specs.RequirementTexts.{requirement_rejection_text, requirement_text_of};
+ghost use Rattle.pep440_pick.specs.Requirements.{requirement_rejection_text, requirement_text_of};
 
 use crate::error::{RequirementError, RequirementParseError};
 use crate::name::same_name;

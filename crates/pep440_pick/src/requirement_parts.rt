@@ -10,8 +10,7 @@ ghost use Rattle.pep440_pick.specs.Names.{is_name, is_name_byte};
 ghost use Rattle.pep440_rs.specs.Blanks.{trim_blanks};
 ghost use Rattle.pep440_pick.specs.RequirementGrammar.{Specifiers};
 ghost use Rattle.pep440_pick.specs.RequirementReading.{behind_name, extras_at, in_parenthesis, list_in, list_position, listed_extras, prefix_after_name, read_prefix};
-ghost use Rattle.pep440_pick.specs.Requirements.{ParsesPrefix, IsOfList, IsPositioned, IsRequirementLifted, requirement_rejection_of};
-ghost use Rattle.pep440_pick.specs.RequirementTexts.{requirement_rejection_text, requirement_text_of};
+ghost use Rattle.pep440_pick.specs.Requirements.{ParsesPrefix, IsOfList, IsPositioned, IsRequirementLifted, requirement_rejection_of, requirement_rejection_text, requirement_text_of};
 ghost use Rattle.pep440_pick.specs.declared.error.RequirementError.TheVariants.{OutOfMemory};
 
 use crate::error::{RequirementError, RequirementParseError};

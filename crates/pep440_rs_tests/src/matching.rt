@@ -3,7 +3,7 @@ use crate::parsers::{build_kind_name, list_argument, specifier_argument};
 use crate::ranges::range_text;
 use crate::specifiers::operator_argument;
 use crate::versions::pattern;
-use pep440_pick::{Requirement, RequirementError, allowed, newest};
+use pep440_pick::{Requirement, RequirementError, allowed, newest, normalize_names};
 use pep440_rs::{
     Operator, Version, VersionSpecifier, VersionSpecifiers, cmp_releases, cmp_without_local,
 };
@@ -141,6 +141,23 @@ pub fn same_names(alloc: Global, one: &str, other: &str) -> Result<String, CaseE
     let answer = pep440_pick::same_name(one, other);
     check(pep440_pick::same_name(other, one) == answer)?;
     yes_or_no(alloc, answer)
+}
+
+/// The normal forms of the names, with blanks between.
+pub fn normal_names(alloc: Global, text: &str) -> Result<String, CaseError> {
+    let mut names = Vec::new(alloc);
+    for name in text.split_ascii_whitespace() {
+        names.push(String::from_str(alloc, name)?)?;
+    }
+    let mut printed = String::new(alloc);
+    for name in normalize_names(alloc, names.as_slice())? {
+        if !printed.is_empty() {
+            printed.push_str(" ")?;
+        }
+        let name = str::from_utf8(name.as_slice()).map_err(|_| CaseError::Unreadable)?;
+        printed.push_str(name)?;
+    }
+    Ok(printed)
 }
 
 // The error's name and its message.

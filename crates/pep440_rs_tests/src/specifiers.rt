@@ -2,7 +2,7 @@
 //! newest candidate.
 use crate::matching::{
     allowed_range, allows, build, compare, compare_releases, compare_without_local, contains,
-    contains_unchecked, is_name, newest_candidate, print_unchecked, requirement,
+    contains_unchecked, is_name, newest_candidate, normal_names, print_unchecked, requirement,
     requirement_position, same_names, specifiers_for,
 };
 use crate::parsers::{list, list_of, members, specifier};
@@ -115,6 +115,7 @@ fn of_one(alloc: Global, call: &str, text: &str) -> Result<String, CaseError> {
         "specifier-of-json" => specifier_of_json(alloc, text),
         "list-of-json" => list_of_json(alloc, text),
         "is-name" => is_name(alloc, text),
+        "normal-names" => normal_names(alloc, text),
         "requirement" => requirement(alloc, text),
         "requirement-position" => requirement_position(alloc, text),
         _ => Err(CaseError::Unreadable),

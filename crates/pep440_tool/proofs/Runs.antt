@@ -23,8 +23,7 @@ use Rattle.pep440_tool.specs.Lines.{LineDenotes, ShowsContained, numbered_lines,
 use Rattle.pep440_tool.specs.Picks.{CandidateDenotes, PickAnswer, is_of_list, shown_requirement_error}
 use Rattle.pep440_version.proofs.ChangeWords.Items.{rest_is}
 use Rattle.std.specs.Str.{IsUtf8}
-use Rattle.pep440_pick.specs.RequirementTexts.{requirement_rejection_text}
-use Rattle.pep440_pick.specs.Requirements.{requirement_rejection_of}
+use Rattle.pep440_pick.specs.Requirements.{requirement_rejection_text, requirement_rejection_of}
 use Rattle.pep440_pick.specs.declared.error.RequirementError.{RequirementError}
 use Rattle.pep440_pick.specs.declared.error.RequirementError.TheVariants as error
 use Rattle.pep440_rs.specs.Bounds.{list_range, range_of}

@@ -1,7 +1,7 @@
 -- The messages of the errors of commands, and what holds of what is given, or of the answer that an error prints.
 use Rattle.std.specs.Prelude.{◌≡◌, ℕ, List, Bool, true, false, codes, is_none, option_map, Option, Some, Result, Ok, Err, if◌then◌else◌}
 use Rattle.pep440_version.specs.Changes.ChangeWords.{not_a_change_text}
-use Rattle.pep440_pick.specs.RequirementTexts.{requirement_text_of}
+use Rattle.pep440_pick.specs.Requirements.{requirement_text_of}
 use Rattle.pep440_pick.specs.declared.error.RequirementError.{RequirementError}
 use Rattle.pep440_pick.specs.declared.error.RequirementError.TheVariants as requirement
 use Rattle.pep440_rs.specs.ErrorTexts.{range_error_text}

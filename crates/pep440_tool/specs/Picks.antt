@@ -6,7 +6,7 @@ use Rattle.pep440_pick.specs.Allowed.{lists_of}
 use Rattle.pep440_pick.specs.Names.{is_name}
 use Rattle.pep440_pick.specs.Newest.{Newest}
 use Rattle.pep440_pick.specs.RequirementGrammar.{DerivesRequirement, Needed, RejectsRequirement, RequirementRejection, Specifiers}
-use Rattle.pep440_pick.specs.RequirementTexts.{requirement_rejection_text}
+use Rattle.pep440_pick.specs.Requirements.{requirement_rejection_text}
 use Rattle.pep440_version.specs.ErrorTexts.{rejection_text}
 use Rattle.pep440_version.specs.Grammar.{Derives}
 use Rattle.pep440_version.specs.Print.{print}

@@ -56,8 +56,7 @@ use Rattle.std.proofs.lemmas.Bool.{both_ways}
 use Rattle.std.specs.declared.cmp.Ordering.{Ordering}
 use Rattle.pep440_pick.proofs.Choosing as greatest
 use Rattle.pep440_pick.proofs.Once.{preference_total}
-use Rattle.pep440_pick.specs.Greatest.{is_above}
-use Rattle.pep440_pick.specs.Newest.{preference}
+use Rattle.pep440_pick.specs.Newest.{is_above, preference}
 use Rattle.pep440_rs.specs.LiteralMatching.{list_matches_literally}
 use Rattle.pep440_rs.specs.Specifiers.{Spec}
 use Rattle.pyver_commands.specs.declared.newest_lines.KeptLine.{KeptLine}

@@ -2,8 +2,7 @@
 use Rattle.std.specs.Prelude.{◌≡◌, ℕ, List, [], ◌++◌, Bool, IsTrue, codes, Option, Some, None, if◌then◌else◌}
 use Rattle.std.specs.Option.{option_map}
 use Rattle.std.specs.Ordering.{on}
-use Rattle.pep440_pick.specs.Greatest.{Greatest}
-use Rattle.pep440_pick.specs.Newest.{preference}
+use Rattle.pep440_pick.specs.Newest.{Greatest, preference}
 use Rattle.pep440_rs.specs.LiteralMatching.{list_matches_literally}
 use Rattle.pep440_rs.specs.Matching.{any_prerelease}
 use Rattle.pep440_rs.specs.Specifiers.{Spec}

@@ -20,7 +20,7 @@ use Rattle.pyver_findings.specs.LineMeanings.{IsKindMeaning, IsMeaning, IsNone, 
 use Rattle.pyver_findings.specs.MarkedConflicts.{FindsOfNames, everywhere}
 use Rattle.pyver_findings.specs.Views.{AddsFindings, AddsFound, KeepsReadings, demand_of, finding_of}
 use Rattle.pyver_findings.specs.Reports.{IsReport, Report, both_counts, constraint_findings, demands_in, found_in, invalid_in, is_ignored, joined_report, left_out_in, without_ignored}
-use Rattle.pyver_findings.specs.declared.cause.Cause.{Cause}
+use Rattle.pyver_requirements.specs.declared.cause.Cause.{Cause}
 use Rattle.pyver_findings.specs.declared.finding.Finding.{Finding as FindingValue}
 use Rattle.pyver_findings.specs.declared.report.Readings.{Readings}
 use Rattle.pyver_requirements.specs.LineKinds.{ConstraintsFile, Editable, Invalid, LineKind, Location, PipOption, Requirement, RequirementsFile, Variable, line_kind}
@@ -30,7 +30,7 @@ use Rattle.pyver_requirements.specs.MarkerReading.{marker}
 use Rattle.pyver_requirements.specs.MarkerSteps.{Misfit}
 use Rattle.pep440_pick.proofs.Once.{not_both_requirement, one_refusal, one_requirement}
 use Rattle.pyver_findings.proofs.MarkedConflicts.{names_once, names_tell, no_causes}
-use Rattle.pyver_findings.specs.declared.cause.Cause.TheVariants as cause
+use Rattle.pyver_requirements.specs.declared.cause.Cause.TheVariants as cause
 
 -- ---- one meaning, and one report
 

@@ -27,8 +27,8 @@ use Rattle.pyver_findings.proofs.SmallestLists.{Allows, IsSpared, all_smallest, 
 use Rattle.pyver_findings.proofs.Rejecting.{invalid_right}
 use Rattle.pyver_findings.specs.Hashes.{lacks_hashes}
 use Rattle.pyver_findings.specs.Reports.{Report, demands_in, found_in, invalid_in}
-use Rattle.pyver_findings.specs.declared.cause.Cause.{Cause}
-use Rattle.pyver_findings.specs.declared.cause.Cause.TheVariants as cause
+use Rattle.pyver_requirements.specs.declared.cause.Cause.{Cause}
+use Rattle.pyver_requirements.specs.declared.cause.Cause.TheVariants as cause
 use Rattle.pyver_findings.specs.declared.finding.Conflict.TheVariants.{NoVersion, PinOutside, TwoPins}
 use Rattle.pyver_findings.specs.declared.marked_conflicts.Decision.{Decision}
 use Rattle.pyver_findings.specs.declared.marked_conflicts.Decision.TheVariants.{Apart, Together, Unknown}

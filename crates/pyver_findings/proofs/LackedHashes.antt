@@ -5,7 +5,7 @@ use Rattle.std.proofs.lemmas.List.{map-append, take_more}
 use Rattle.std.proofs.lemmas.List.Elements.{All-append, All-cons, All-contains_itself, All-head, All-nil, All-tail}
 use Rattle.std.proofs.lemmas.List.Folds.{list_any-append}
 use Rattle.std.specs.List.{All, Contains, flat_map, list_any}
-use Rattle.pyver_findings.proofs.Grouping.{swap}
+use Rattle.pyver_requirements.proofs.Grouped.{swap}
 use Rattle.pyver_findings.proofs.StringReadings.{or_false}
 use Rattle.pyver_findings.proofs.Found.{Some_is, in_left, in_right}
 use Rattle.pyver_findings.specs.Demands.{Demand}

@@ -1,4 +1,3 @@
-pub mod Steps
 pub mod Grouping
 pub mod Rejecting
 pub mod SmallestLists

@@ -5,15 +5,15 @@ use Rattle.std.proofs.lemmas.List.Elements.{All-cons, All-head, All-nil, All-tai
 use Rattle.std.proofs.lemmas.List.{append-nil, drop_all, length-append, length-map, map-append, take_all, take_more}
 use Rattle.std.specs.Global.{Vec}
 use Rattle.std.specs.List.{All, Contains, filter, list_any}
-use Rattle.pyver_findings.proofs.Steps.{rest_at}
+use Rattle.pyver_requirements.proofs.Grouped.{rest_at}
 use Rattle.pyver_findings.specs.Conflicts.{conflict_kind, first_mentions, has_same_marker, has_same_name, have_none, of_all, smallest, unmarked}
 use Rattle.pyver_findings.specs.Demands.{Demand}
 use Rattle.pyver_findings.specs.FileLines.{Conflicting, FileLine, Finding}
 use Rattle.pyver_findings.specs.FindingLaws.{without_environment}
 use Rattle.pyver_findings.specs.MarkedConflicts.{AreJoined, AsksIn, ConflictingSets, FindsBoth, FindsByUnmarked, FindsDecided, FindsNothing, FindsOfEach, FindsOfFirsts, FindsOfMarkers, FindsOfName, FindsOfNames, FindsOfSet, FindsOfSets, HasDenoted, IsDenotedBySteps, IsDecision, KnowsSteps, conflicting_sets, few_first_lines, first_lines, lines_to_pair, under_any, with_first}
 use Rattle.pyver_findings.specs.Views.{AddsFindings, AddsFound, finding_of}
-use Rattle.pyver_findings.specs.declared.cause.Cause.{Cause}
-use Rattle.pyver_findings.specs.declared.cause.Cause.TheVariants as cause
+use Rattle.pyver_requirements.specs.declared.cause.Cause.{Cause}
+use Rattle.pyver_requirements.specs.declared.cause.Cause.TheVariants as cause
 use Rattle.pyver_findings.specs.declared.finding.Conflict.{Conflict}
 use Rattle.pyver_findings.specs.declared.finding.Finding.{Finding as FindingValue}
 use Rattle.pyver_findings.specs.declared.marked_conflicts.Decision.{Decision}

@@ -7,7 +7,7 @@ use Rattle.pep440_pick.proofs.Once.{not_both_requirement, one_requirement}
 use Rattle.pep440_pick.specs.RequirementGrammar.{DerivesRequirement, InvalidExtras, InvalidName, Marker, Needed, RejectsRequirement, RequirementRejection, Specifiers, Unclosed, Url}
 use Rattle.pyver_findings.specs.FileLines.{FileLine, NoRequirement}
 use Rattle.pyver_findings.specs.FindingLaws.{FitsUrl, IsRequirementLine, IsRight}
-use Rattle.pyver_findings.specs.LineMeanings.{AsksNothing, IsKindMeaning, IsListMeaning, IsMeaning, IsNone, IsPartsMeaning, IsPlain, LeftOut, LineMeaning, has_right_url, has_scheme, invalid_line, names_file, not_plain, rejection_meaning, requirement_meaning, requirement_reason, under_marker, with_marker, with_url}
+use Rattle.pyver_findings.specs.LineMeanings.{AsksNothing, IsKindMeaning, IsListMeaning, IsMeaning, IsNone, IsPartsMeaning, IsPlain, LeftOut, LineMeaning, has_right_url, has_scheme, invalid_line, names_file, not_plain, rejection_meaning, requirement_meaning, requirement_reason, under_marker, with_marker, with_url, list_column}
 use Rattle.pyver_findings.specs.Reports.{invalid_in}
 use Rattle.pyver_requirements.specs.LineKinds.{ConstraintsFile, Editable, Invalid, LineKind, Location, PipOption, Requirement, RequirementsFile, Variable, has_variable, line_kind}
 use Rattle.pyver_requirements.specs.declared.line_fault.LineFault.{LineFault}
@@ -15,8 +15,7 @@ use Rattle.pyver_requirements.specs.LineParts.{LineParts, pip_parts}
 use Rattle.pyver_requirements.specs.MarkerReading.{marker}
 use Rattle.pyver_requirements.specs.MarkerSteps.{Misfit}
 use Rattle.std.proofs.lemmas.List.{append_cancel_left, append_cancel_right}
-use Rattle.pep440_pick.specs.RequirementTexts.{requirement_rejection_text, requirement_text_of}
-use Rattle.pep440_pick.specs.Requirements.{requirement_rejection_of}
+use Rattle.pep440_pick.specs.Requirements.{requirement_rejection_text, requirement_text_of, requirement_rejection_of}
 use Rattle.pep440_pick.specs.declared.error.RequirementError.{RequirementError}
 use Rattle.pep440_rs.specs.ErrorTexts.{specifier_error_text, specifier_rejection_text}
 use Rattle.pep440_rs.specs.Errors.{parse_kind_of, specifier_rejection_of}
@@ -26,12 +25,11 @@ use Rattle.pep440_rs.specs.Lists.ListErrors.{list_rejection_of}
 use Rattle.pep440_rs.specs.Lists.ListGrammar.{PieceRejection, RejectsList}
 use Rattle.pep440_rs.specs.Specifiers.SpecifierGrammar.{SpecifierRejection}
 use Rattle.pep440_rs.specs.declared.list.error.SpecifiersErrorKind.{SpecifiersErrorKind}
-use Rattle.pyver_findings.specs.Columns.{list_column}
 use Rattle.pyver_findings.specs.Views.{is_memory_error, line_meaning_of, piece_text_of, reason_text_of}
 use Rattle.pyver_findings.specs.declared.line_meaning.LineMeaning.{LineMeaning as LineMeaningValue}
 use Rattle.std.specs.declared.alloc.AllocError.{AllocError}
 use Rattle.std.proofs.lemmas.Result.{IfOk-weaker}
-use Rattle.pyver_findings.specs.declared.cause.Cause.TheVariants as cause
+use Rattle.pyver_requirements.specs.declared.cause.Cause.TheVariants as cause
 use Rattle.pep440_pick.specs.declared.error.RequirementError.TheVariants as error
 use Rattle.pep440_rs.specs.declared.list.error.SpecifiersErrorKind.TheVariants as list
 

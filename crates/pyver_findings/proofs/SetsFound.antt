@@ -14,8 +14,8 @@ use Rattle.pyver_findings.specs.FileLines.{Conflicting, FileLine, Finding, all_l
 use Rattle.pyver_findings.specs.FindingLaws.{ConflictsHaveFindings, HaveNone, IsAmong, IsAmongIn, IsOneIn, IsUndecided, SetsHaveFindings}
 use Rattle.pyver_findings.specs.MarkedConflicts.{AsksIn, FindsByUnmarked, FindsDecided, FindsOfEach, FindsOfFirsts, FindsOfMarkers, FindsOfName, FindsOfNames, FindsOfSet, FindsOfSets, IsDecision, conflicting_sets, counts_with, everywhere, first_lines, lines_to_pair, open_lines, under_any, Branch, ConflictingSets, branches, branches_of, conflicting_pair, conflicting_pairs, has_all, others_than, search_branches, set_among, smallest_set, with_first, with_set}
 use Rattle.pyver_findings.specs.Reports.{Report, demands_in, found_in, left_out_in}
-use Rattle.pyver_findings.specs.declared.cause.Cause.{Cause}
-use Rattle.pyver_findings.specs.declared.cause.Cause.TheVariants as cause
+use Rattle.pyver_requirements.specs.declared.cause.Cause.{Cause}
+use Rattle.pyver_requirements.specs.declared.cause.Cause.TheVariants as cause
 use Rattle.pyver_findings.specs.declared.marked_conflicts.Decision.{Decision}
 use Rattle.pyver_findings.specs.declared.marked_conflicts.Decision.TheVariants.{Apart, Together, Unknown}
 use Rattle.pyver_markers.specs.Conditions.{Domain, IsEnvironment}

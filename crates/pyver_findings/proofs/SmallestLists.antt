@@ -21,10 +21,6 @@ use Rattle.pep440_sets.specs.Emptiness.{HasNoVersion}
 use Rattle.pep440_sets.specs.Sets.{HoldsListMatches}
 use Rattle.pep440_version.specs.Key.{record_cmp}
 
-pub is_nil : {X : Type 0} (xs : List X) → (length xs == 0) ≡ true → xs ≡ []
-is_nil [] e = refl
-is_nil (x ∷ xs) e = let none : length (x ∷ xs) ≡ 0 = eqb-true (length (x ∷ xs)) 0 e in absurd (omega (arith, none))
-
 -- ---- versions and lines
 
 -- the list of the line contains the version

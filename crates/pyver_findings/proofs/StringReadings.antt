@@ -9,7 +9,7 @@ use Rattle.pep440_version.proofs.Reading.Prefixes.{lead-all, lead-run, past-run,
 use Rattle.pep440_version.proofs.Reading.ReadIsDerived.{split}
 use Rattle.pep440_version.specs.Grammar.{starts}
 use Rattle.pep440_version.specs.Reading.{lead, past}
-use Rattle.pyver_findings.proofs.SmallestLists.{is_nil}
+use Rattle.pyver_requirements.proofs.Grouped.{is_nil}
 use Rattle.pyver_findings.specs.FindingLaws.{AreParts, AreSpaces, DerivesString, FitsUrl, HasMarker, IsLinked, IsMarkerPart, IsUrl, StringsHaveGrammar}
 use Rattle.pyver_findings.specs.LineMeanings.{IsMeaning, IsPlain, LineMeaning, has_right_url, is_plain_byte}
 use Rattle.pyver_requirements.proofs.MarkerReadings.{markers_are_read, read_markers_are_derived}
@@ -26,15 +26,14 @@ use Rattle.pyver_findings.specs.declared.report.Readings.{Readings}
 use Rattle.std.proofs.lemmas.List.Folds.{list_any-append}
 use Rattle.pep440_rs.specs.Blanks.{opens}
 use Rattle.pyver_findings.specs.NamedFiles.{constraints_path, folder}
-use Rattle.pyver_requirements.specs.ConflictMarks.{is_conflict_mark}
-use Rattle.pyver_requirements.specs.LineKinds.{Invalid, LineKind, Location, Requirement, Variable, first_word, has_variable, is_location, line_kind, option_kind, right_kind, unless_fault}
+use Rattle.pyver_requirements.specs.LineKinds.{is_conflict_mark, Invalid, LineKind, Location, Requirement, Variable, first_word, has_variable, is_location, line_kind, option_kind, right_kind, unless_fault}
 use Rattle.pyver_requirements.specs.LogicalLines.{is_utf16}
-use Rattle.pyver_requirements.specs.OptionFaults.{FaultPosition, options_fault, options_in}
+use Rattle.pyver_requirements.specs.Options.{FaultPosition, options_fault, options_in}
 use Rattle.pyver_requirements.specs.declared.line_fault.LineFault.TheVariants.{ConflictMark, Utf16}
 use Rattle.std.proofs.lemmas.List.Elements.{All-cons, All-head, All-nil, All-tail}
 use Rattle.std.specs.Str.{IsUtf8, is_utf8}
 use Rattle.cli_io.specs.Escapes.{hex_digit, hex_digits, is_printable}
-use Rattle.pyver_findings.specs.ReportObjects.{JsonStringsDiffer, json_byte}
+use Rattle.pyver_findings.specs.ReportTexts.{JsonStringsDiffer, json_byte}
 use Rattle.std.proofs.lemmas.List.Sums.{prefix_len-le-length}
 use Rattle.std.proofs.lemmas.Str.{IsUtf8-from_ascii}
 use Rattle.std.proofs.lemmas.Str.Ascii.{IsAscii-from_all}

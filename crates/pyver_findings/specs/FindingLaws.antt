@@ -16,17 +16,17 @@ use Rattle.pyver_findings.specs.NamedFiles.{constraints_files}
 use Rattle.pyver_findings.specs.LineMeanings.{IsMeaning, IsNone, IsPlain, LineMeaning, has_extras, has_right_url}
 use Rattle.pyver_findings.specs.MarkedConflicts.{AsksIn, HoldsIn, everywhere}
 use Rattle.pyver_findings.specs.Reports.{IsReport, Report, demands_in}
-use Rattle.pyver_findings.specs.declared.cause.Cause.TheVariants as cause
+use Rattle.pyver_requirements.specs.declared.cause.Cause.TheVariants as cause
 use Rattle.pyver_findings.specs.declared.finding.Conflict.{Conflict}
 use Rattle.pyver_findings.specs.declared.finding.Conflict.TheVariants.{NoVersion, PinOutside, TwoPins}
 use Rattle.pyver_markers.specs.Conditions.{Domain, IsEnvironment}
 use Rattle.pyver_markers.specs.Environments.{Assignment, Environment, Extends, assigned, environment_text}
-use Rattle.pyver_markers.specs.Extents.{is_writable}
+use Rattle.pyver_markers.specs.MarkerValues.{is_writable}
 use Rattle.pyver_requirements.specs.LineKinds.{Editable, Invalid, Requirement, line_kind}
 use Rattle.pyver_requirements.specs.LineParts.{LineParts, pip_parts, is_blank_byte, is_url_byte, line_parts}
+use Rattle.pyver_requirements.specs.MarkerGrammar.{DenotesMarker, Marker}
 use Rattle.pyver_requirements.specs.MarkerReading.{marker}
 use Rattle.pyver_requirements.specs.declared.line_fault.LineFault.{LineFault}
-use Rattle.pyver_requirements.specs.MarkerGrammar.{DenotesMarker, Marker}
 
 -- after `;` this marker stands, in its normal form; or there is neither
 abbrev pub HasMarker : LineParts → Option (List ℕ) → Type 0

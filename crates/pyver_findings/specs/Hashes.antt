@@ -7,7 +7,7 @@ use Rattle.pep440_rs.specs.Specifiers.{Spec}
 use Rattle.pep440_rs.specs.declared.specifier.operator.Operator.{Operator}
 use Rattle.pep440_rs.specs.declared.specifier.operator.Operator.TheVariants.{Equal, EqualStar, ExactEqual}
 use Rattle.pyver_requirements.specs.LineKinds.{LineKind, Location, PipOption, Requirement, Variable, line_kind}
-use Rattle.pyver_requirements.specs.OptionFaults.{has_option, has_plain_options}
+use Rattle.pyver_requirements.specs.Options.{has_option, has_plain_options}
 use Rattle.pyver_findings.specs.Demands.{Demand}
 use Rattle.pyver_findings.specs.FileLines.{FileLine, Finding, NoRequirement}
 use Rattle.pyver_findings.specs.NamedFiles.{constraints_names}

@@ -1,5 +1,4 @@
 pub mod Demands
-pub mod Columns
 pub mod LineMeanings
 pub mod FileLines
 pub mod NamedFiles
@@ -10,6 +9,5 @@ pub mod Reports
 pub mod Exports
 pub mod Views
 pub mod ReportTexts
-pub mod ReportObjects
 pub mod SarifLogs
 pub mod FindingLaws

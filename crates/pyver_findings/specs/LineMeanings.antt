@@ -1,27 +1,55 @@
 -- What a line of a requirements file is to the check: a requirement, none, a line that is left out, or one that asks for no package.
-use Rattle.std.specs.Prelude.{◌≡◌, ◌⊎◌, ◌==◌, ◌&&◌, ◌||◌, ℕ, List, [], ◌∷◌, Bool, true, false, Option, Some, None, Result, Ok, Err, codes, is_none, length, nat_eq, not, if◌then◌else◌}
+-- The columns at which requirements, lists and markers are invalid.
+use Rattle.std.specs.Prelude.{ℕ, ◌+◌, ◌-◌, List, [], ◌∷◌, bytes_eq, codes, drop, length, if◌then◌else◌, ◌≡◌, ◌⊎◌, ◌==◌, ◌&&◌, ◌||◌, Bool, true, false, Option, Some, None, Result, Ok, Err, is_none, nat_eq, not}
 use Rattle.std.specs.Char.{is_ascii_whitespace}
-use Rattle.std.specs.List.{list_all, list_any, prefix_len, starts_with}
-use Rattle.pep440_pick.specs.RequirementGrammar.{DerivesRequirement, Needed, RejectsRequirement, RequirementRejection, Specifiers}
-use Rattle.pep440_pick.specs.RequirementTexts.{requirement_rejection_text}
+use Rattle.std.specs.List.{list_any, list_all, prefix_len, starts_with}
+use Rattle.std.specs.Option.{option_map_or}
+use Rattle.pep440_rs.specs.Lists.ListGrammar.{PieceRejection, DerivesList, RejectsList}
+use Rattle.pep440_pick.specs.RequirementGrammar.{RequirementRejection, Specifiers, DerivesRequirement, Needed, RejectsRequirement}
+use Rattle.pep440_pick.specs.RequirementReading.{list_position, rejection_position}
+use Rattle.pep440_version.specs.Reading.{lead, past}
+use Rattle.pyver_requirements.specs.LineParts.{LineParts, is_blank_byte, pip_parts}
+use Rattle.pyver_requirements.specs.MarkerTokens.{is_operator_byte}
+use Rattle.pep440_pick.specs.Requirements.{requirement_rejection_text}
 use Rattle.pep440_rs.specs.ErrorTexts.{specifier_rejection_text}
-use Rattle.pep440_rs.specs.Lists.ListGrammar.{DerivesList, PieceRejection, RejectsList}
 use Rattle.pep440_rs.specs.Specifiers.{Spec}
 use Rattle.pep440_sets.specs.Common.{common_version}
-use Rattle.pep440_version.specs.Reading.{lead, past}
 use Rattle.pyver_requirements.specs.LineKinds.{ConstraintsFile, Editable, Invalid, LineKind, Location, PipOption, Requirement, RequirementsFile, Variable, has_variable, line_kind}
-use Rattle.pyver_requirements.specs.LineParts.{LineParts, is_blank_byte, pip_parts}
 use Rattle.pyver_requirements.specs.MarkerReading.{marker}
 use Rattle.pyver_requirements.specs.MarkerSteps.{Misfit, marker_reason}
 use Rattle.pyver_requirements.specs.declared.line_fault.LineFault.{LineFault}
-use Rattle.pyver_requirements.specs.declared.line_fault.LineFault.TheVariants as fault
 use Rattle.pyver_findings.specs.Demands.{Demand, line_demand}
-use Rattle.pyver_findings.specs.Columns.{column, marker_column, list_column}
 use Rattle.cli_io.specs.Escapes.{is_printable}
 use Rattle.pyver_findings.specs.FileLines.{Conflicting, FileLine, Finding, NoRequirement}
-use Rattle.pyver_findings.specs.declared.cause.Cause.{Cause}
-use Rattle.pyver_findings.specs.declared.cause.Cause.TheVariants as cause
+use Rattle.pyver_requirements.specs.declared.cause.Cause.{Cause}
 use Rattle.pyver_findings.specs.declared.finding.Conflict.TheVariants.{NoVersion}
+use Rattle.pyver_requirements.specs.declared.line_fault.LineFault.TheVariants as fault
+use Rattle.pyver_requirements.specs.declared.cause.Cause.TheVariants as cause
+
+-- the operators
+abbrev pub operators : List (List ℕ)
+operators = codes "~=" ∷ (codes "==" ∷ (codes "!=" ∷ (codes "<=" ∷ (codes ">=" ∷ (codes "<" ∷ (codes ">" ∷ (codes "===" ∷ [])))))))
+
+-- what stands after the operator that the string begins with, and after the blanks behind it; the whole string where it is none
+abbrev pub behind_operator : List ℕ → List ℕ
+behind_operator text = if list_any (bytes_eq (lead is_operator_byte text)) operators then past is_ascii_whitespace (past is_operator_byte text) else text
+
+-- what stands from the position on at which the list is invalid: the invalid specifier behind its operator
+abbrev pub rest_in_list : List ℕ → PieceRejection → List ℕ
+rest_in_list text f = behind_operator (past is_ascii_whitespace (drop f.start text))
+
+-- the column of that position, in bytes from 0
+abbrev pub list_column : List ℕ → PieceRejection → ℕ
+list_column text f = length text - length (rest_in_list text f)
+
+-- the column at which the requirement is invalid, in bytes from 0: in its list that of the specifier
+abbrev pub column : List ℕ → RequirementRejection → ℕ
+column text (Specifiers list f) = list_position text + list_column (drop (list_position text) text) f
+column text f = rejection_position text f
+
+-- the column of this position in the marker, in bytes from 0
+abbrev pub marker_column : LineParts → ℕ → ℕ
+marker_column p position = length p.text - (length (option_map_or (λ m. m) p.marker []) - position)
 
 -- a requirement; a line that is none; a line that is left out, and why; a line that asks for no package, as the name of another file
 pub data LineMeaning : Type 0 where

@@ -4,14 +4,13 @@ use Rattle.std.specs.List.{All, filter, flat_map, list_all, list_any}
 use Rattle.pyver_findings.specs.Conflicts.{first_mentions, has_same_marker, has_same_name, have_none, of_all, smallest, unmarked}
 use Rattle.pyver_findings.specs.Demands.{Demand}
 use Rattle.pyver_findings.specs.FileLines.{Finding}
-use Rattle.pyver_findings.specs.declared.cause.Cause.{Cause}
-use Rattle.pyver_findings.specs.declared.cause.Cause.TheVariants as cause
+use Rattle.pyver_requirements.specs.declared.cause.Cause.{Cause}
+use Rattle.pyver_requirements.specs.declared.cause.Cause.TheVariants as cause
 use Rattle.pyver_findings.specs.declared.marked_conflicts.Decision.{Decision}
 use Rattle.pyver_findings.specs.declared.marked_conflicts.Decision.TheVariants.{Apart, Together, Unknown}
 use Rattle.pyver_markers.specs.Conditions.{Domain, IsEnvironment, IsNever}
 use Rattle.pyver_markers.specs.Environments.{Assignment, Environment, Extends, assigned, environment_text}
-use Rattle.pyver_markers.specs.Extents.{IsExample, is_writable}
-use Rattle.pyver_markers.specs.MarkerValues.{value}
+use Rattle.pyver_markers.specs.MarkerValues.{IsExample, is_writable, value}
 use Rattle.pyver_requirements.specs.MarkerGrammar.{Both, DenotesMarker, Marker}
 use Rattle.pyver_requirements.specs.MarkerSteps.{Step, steps}
 

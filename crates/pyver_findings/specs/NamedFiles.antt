@@ -4,7 +4,7 @@ use Rattle.std.specs.List.{filter, flat_map, list_any}
 use Rattle.pep440_rs.specs.Blanks.{opens}
 use Rattle.pyver_requirements.specs.LineKinds.{ConstraintsFile, LineKind, RequirementsFile, has_variable, line_kind}
 use Rattle.pyver_requirements.specs.LogicalLines.{Line, logical_lines}
-use Rattle.pyver_requirements.specs.OptionValues.{value_column}
+use Rattle.pyver_requirements.specs.Options.{value_column}
 use Rattle.pyver_findings.specs.FileLines.{File, FileLine, all_lines}
 use Rattle.pyver_findings.specs.LineMeanings.{has_scheme}
 

@@ -7,7 +7,7 @@ use Rattle.pyver_findings.specs.Hashes.{lacks_hashes}
 use Rattle.pyver_findings.specs.NamedFiles.{constraints_files}
 use Rattle.pyver_findings.specs.LineMeanings.{Asks, IsNone, LeftOut, LineMeaning, AsksNothing, IsMeaning, constraint_faults, has_part}
 use Rattle.pyver_findings.specs.MarkedConflicts.{FindsOfNames, everywhere}
-use Rattle.pyver_findings.specs.declared.cause.Cause.{Cause}
+use Rattle.pyver_requirements.specs.declared.cause.Cause.{Cause}
 use Rattle.pyver_findings.specs.declared.finding.Conflict.{Conflict}
 use Rattle.pyver_findings.specs.declared.finding.Conflict.TheVariants.{NoVersion, PinOutside, TwoPins}
 use Rattle.pyver_findings.specs.declared.finding.FindingKind.{FindingKind}

@@ -7,8 +7,7 @@ use Rattle.cli_io.specs.Escapes.{hex_digits}
 use Rattle.pep440_rs.specs.Blanks.{opens}
 use Rattle.pyver_findings.specs.FileLines.{Conflicting, FileLine, Finding, NoRequirement}
 use Rattle.pyver_findings.specs.Reports.{Report, finding_kind, is_ignored, kind_code, kind_summary, kind_word}
-use Rattle.pyver_findings.specs.ReportObjects.{json_string}
-use Rattle.pyver_findings.specs.ReportTexts.{finding_message}
+use Rattle.pyver_findings.specs.ReportTexts.{json_string, finding_message}
 use Rattle.pyver_findings.specs.declared.finding.FindingKind.{FindingKind}
 use Rattle.pyver_findings.specs.declared.finding.FindingKind.TheVariants as kind
 

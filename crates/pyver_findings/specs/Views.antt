@@ -10,7 +10,7 @@ use Rattle.pyver_findings.specs.NamedFiles.{NamedFile, Position}
 use Rattle.pyver_findings.specs.LineMeanings.{Asks, AsksNothing, IsMeaning, IsNone, LeftOut, LineMeaning}
 use Rattle.pyver_findings.specs.MarkedConflicts.{Branch, ConflictingSets}
 use Rattle.pyver_findings.specs.Reports.{Report, demands_in, invalid_in, left_out_in}
-use Rattle.pyver_findings.specs.declared.cause.Cause.{Cause}
+use Rattle.pyver_requirements.specs.declared.cause.Cause.{Cause}
 use Rattle.pyver_findings.specs.declared.demand.Demand.{Demand as DemandValue}
 use Rattle.pyver_findings.specs.declared.file_line.FileLine.{FileLine as FileLineValue}
 use Rattle.pyver_findings.specs.declared.file_line.SourceFile.{SourceFile}
@@ -22,8 +22,7 @@ use Rattle.pyver_findings.specs.declared.named_files.NamedFile.{NamedFile as Nam
 use Rattle.pyver_findings.specs.declared.named_files.Position.{Position as PositionValue}
 use Rattle.pyver_findings.specs.declared.report.Report.{Report as ReportValue}
 use Rattle.std.specs.List.{AllZip, flat_map}
-use Rattle.pep440_pick.specs.RequirementTexts.{requirement_rejection_text}
-use Rattle.pep440_pick.specs.Requirements.{requirement_rejection_of}
+use Rattle.pep440_pick.specs.Requirements.{requirement_rejection_text, requirement_rejection_of}
 use Rattle.pep440_pick.specs.declared.error.RequirementError.{RequirementError}
 use Rattle.pep440_rs.specs.ErrorTexts.{specifier_error_text}
 use Rattle.pep440_rs.specs.Errors.{parse_kind_of, specifier_rejection_of}

@@ -2,8 +2,8 @@
 ghost use Rattle.std.specs.Prelude.{◌≡◌, ◌≤◌, ◌==◌, bytes_eq, drop, length, IfSome};
 ghost use Rattle.std.specs.List.{list_any, prefix_len};
 ghost use Rattle.pep440_pick.specs.Requirements.{IsPositioned, IsRequirementLifted, requirement_rejection_of};
-ghost use Rattle.pyver_findings.specs.Columns.{behind_operator, column, list_column, marker_column, operators, rest_in_list};
-ghost use Rattle.pyver_requirements.specs.LineViews.{line_parts_of};
+ghost use Rattle.pyver_findings.specs.LineMeanings.{behind_operator, column, list_column, marker_column, operators, rest_in_list};
+ghost use Rattle.pyver_requirements.specs.LineKinds.{line_parts_of};
 ghost use Rattle.pyver_requirements.specs.MarkerTokens.{is_operator_byte};
 ghost use Rattle.pep440_rs.specs.Lists.ListResults.{list_kind_of};
 ghost use Rattle.pep440_rs.specs.Lists.ListErrors.{list_rejection_of};

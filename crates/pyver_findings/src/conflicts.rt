@@ -4,14 +4,14 @@ ghost use Rattle.std.specs.List.{All, filter};
 ghost use Rattle.pyver_findings.specs.Demands.{IsSound};
 ghost use Rattle.pyver_findings.specs.MarkedConflicts.{FindsOfName, FindsOfNames};
 ghost use Rattle.pyver_findings.specs.Views.{AddsFound, demand_of, demands_of_group, group_at};
-ghost use Rattle.pyver_markers.specs.EnvironmentViews.{domain_of};
+ghost use Rattle.pyver_markers.specs.Environments.{domain_of};
 
-use crate::cause::Cause;
 use crate::demand::Demand;
 use crate::finding::Finding;
 use crate::key_groups::push_to_group;
 use crate::marked_conflicts::push_of_name;
 use pyver_markers::Domain;
+use pyver_requirements::Cause;
 use std::alloc::{AllocError, Global};
 use std::collections::HashMap;
 

@@ -9,8 +9,7 @@ ghost use Rattle.pyver_findings.specs.Reports.{constraint_findings};
 ghost use Rattle.pyver_findings.specs.Views.{AddsFindings, file_line_of, file_of, finding_of};
 ghost use Rattle.pep440_rs.specs.Blanks.{opens};
 ghost use Rattle.pep440_version.specs.Reading.{lead};
-ghost use Rattle.pyver_requirements.specs.LineKinds.{Requirement, line_kind};
-ghost use Rattle.pyver_requirements.specs.LineViews.{line_kind_of};
+ghost use Rattle.pyver_requirements.specs.LineKinds.{Requirement, line_kind, line_kind_of};
 
 use crate::file_line::{FileLine, SourceFile, push_file};
 use crate::finding::Finding;

@@ -5,8 +5,7 @@ ghost use Rattle.pyver_findings.specs.Demands.{line_demand, is_pin_operator, is_
 ghost use Rattle.pyver_findings.specs.Views.{demand_of, file_line_of};
 
 use crate::file_line::FileLine;
-use crate::normal_name::{normalize_name, normalize_names};
-use pep440_pick::Requirement;
+use pep440_pick::{Requirement, normalize_name, normalize_names};
 use pep440_rs::{Operator, VersionSpecifier, VersionSpecifiers};
 use std::alloc::{AllocError, Global};
 

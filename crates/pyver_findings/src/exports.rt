@@ -3,7 +3,7 @@ ghost use Rattle.std.specs.Prelude.{◌≡◌, IfOk, map};
 ghost use Rattle.std.specs.List.{list_any};
 ghost use Rattle.pyver_findings.specs.Exports.{AreDemandsOf, are_hashed_pins, has_line, is_export, is_hashed_pin, is_loose, is_of_pip_compile, is_of_uv, is_of_uv_lock, is_requirement, is_requirement_kind};
 ghost use Rattle.pyver_findings.specs.Views.{demand_of, file_line_of, file_of};
-ghost use Rattle.pyver_requirements.specs.LineViews.{line_kind_of};
+ghost use Rattle.pyver_requirements.specs.LineKinds.{line_kind_of};
 
 use crate::demand::Demand;
 use crate::file_line::{FileLine, SourceFile, push_file};
@@ -91,7 +91,7 @@ fn has_loose(lines: &[FileLine]) -> bool
     lines.iter().any(|line| is_loose(line))
 }
 
-#[tactic(auto, using(crate::proofs::Steps::any_viewed))]
+#[tactic(auto, using(pyver_requirements::proofs::Grouped::any_viewed))]
 fn are_hashed_pins(lines: &[FileLine]) -> bool
     ensures { result ≡ are_hashed_pins (map file_line_of lines.now) }
 {

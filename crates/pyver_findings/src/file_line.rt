@@ -2,7 +2,7 @@
 ghost use Rattle.std.specs.Prelude.{◌≡◌, ◌∷◌, ◌++◌, [], IfOk, map};
 ghost use Rattle.pyver_findings.specs.FileLines.{all_lines, file_line, file_lines};
 ghost use Rattle.pyver_findings.specs.Views.{file_line_of, file_of};
-ghost use Rattle.pyver_requirements.specs.LineViews.{logical_line_of};
+ghost use Rattle.pyver_requirements.specs.LineKinds.{logical_line_of};
 
 use pyver_requirements::{LogicalLine, logical_lines};
 use std::alloc::{AllocError, Global};

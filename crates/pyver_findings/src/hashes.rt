@@ -3,7 +3,7 @@ ghost use Rattle.std.specs.Prelude.{◌≡◌, ◌&&◌, ◌||◌, IfOk, List, b
 ghost use Rattle.std.specs.List.{flat_map, list_all, list_any};
 ghost use Rattle.pyver_findings.specs.Hashes.{has_hash, is_known_name, has_pin, is_equality, is_hashed, is_hashing, is_pin, is_pip_option, lacking_of_line, lacking_by, lacks_hashes, may_be_hashed, may_have_hash, reads_hashes, says, waives_hashes, wants_hashes};
 ghost use Rattle.pyver_findings.specs.Views.{AddsFindings, demand_of, file_line_of};
-ghost use Rattle.pyver_requirements.specs.LineViews.{line_kind_of};
+ghost use Rattle.pyver_requirements.specs.LineKinds.{line_kind_of};
 
 use crate::constraints::{constraints_names, is_one_of, push_fault};
 use crate::demand::Demand;

@@ -2,7 +2,7 @@
 ghost use Rattle.std.specs.Prelude.{◌≡◌, ◌++◌, IfOk};
 ghost use Rattle.std.specs.List.{flat_map};
 ghost use Rattle.std.specs.Str.{is_utf8};
-ghost use Rattle.pyver_findings.specs.ReportObjects.{json_byte, json_string};
+ghost use Rattle.pyver_findings.specs.ReportTexts.{json_byte, json_string};
 
 use cli_io::{is_printable, push_hex_digits};
 use std::alloc::AllocError;

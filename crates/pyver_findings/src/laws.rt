@@ -1,5 +1,5 @@
 //! What holds of findings, as the contract of a function that does nothing.
-ghost use Rattle.pyver_findings.specs.ReportObjects.{JsonStringsDiffer};
+ghost use Rattle.pyver_findings.specs.ReportTexts.{JsonStringsDiffer};
 ghost use Rattle.pyver_findings.specs.FindingLaws.{ConflictsHaveFindings, FindingsHold, InvalidLinesHaveFindings, LackedHashesHaveFindings, MeaningsOnce, ReportsOnce, SetsHaveFindings, StringsHaveGrammar, WrongConstraintsHaveFindings};
 
 /// A line that is reported by itself is a line of the files and no requirement, for the reason and at the column that are

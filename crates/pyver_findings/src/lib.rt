@@ -1,7 +1,6 @@
 //! What is wrong in requirements files: lines that are no requirements, and lines that no version can satisfy together.
 #![tactic(auto)]
 
-mod cause;
 mod column;
 mod conflicts;
 mod constraints;
@@ -20,7 +19,6 @@ mod marked_conflicts;
 mod marker;
 mod marker_sets;
 mod named_files;
-mod normal_name;
 mod plain;
 mod report;
 mod report_github;
@@ -30,7 +28,6 @@ mod report_text;
 mod requirement_line;
 mod smallest;
 
-pub use cause::Cause;
 pub use conflicts::push_conflicts;
 pub use demand::Demand;
 pub use exports::{is_export, is_of_uv_lock, parse_demands};
@@ -39,7 +36,6 @@ pub use finding::{Conflict, Finding, FindingKind};
 pub use json_string::push_json_string;
 pub use line_meaning::LineMeaning;
 pub use named_files::{NamedFile, Position, push_named_files};
-pub use normal_name::{normalize_name, normalize_names};
 pub use report::{Report, find_problems};
 pub use report_text::{push_number, push_text};
 pub use requirement_line::{parse_requirement, parse_specifiers};

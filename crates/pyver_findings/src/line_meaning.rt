@@ -2,14 +2,13 @@
 ghost use Rattle.std.specs.Prelude.{◌≡◌, IfOk};
 ghost use Rattle.pyver_findings.specs.LineMeanings.{IsKindMeaning, IsMeaning, fault_reason, has_part, has_scheme, names_file};
 ghost use Rattle.pyver_findings.specs.Views.{file_line_of, line_meaning_of};
-ghost use Rattle.pyver_requirements.specs.LineViews.{line_kind_of};
+ghost use Rattle.pyver_requirements.specs.LineKinds.{line_kind_of};
 
-use crate::cause::Cause;
 use crate::demand::Demand;
 use crate::file_line::FileLine;
 use crate::finding::Finding;
 use crate::requirement_line::{parse_pip_line, reject};
-use pyver_requirements::{LineFault, LineKind, classify, has_variable};
+use pyver_requirements::{Cause, LineFault, LineKind, classify, has_variable};
 use std::alloc::{AllocError, Global};
 
 /// What a line of a requirements file or a string of a document is to the check.

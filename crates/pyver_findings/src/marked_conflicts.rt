@@ -5,11 +5,10 @@ ghost use Rattle.pyver_findings.specs.Conflicts.{have_none, unmarked};
 ghost use Rattle.pyver_findings.specs.Demands.{IsSound};
 ghost use Rattle.pyver_findings.specs.MarkedConflicts.{AreJoined, FindsDecided, FindsOfEach, FindsOfFirsts, FindsOfMarkers, FindsOfName, FindsOfSet, HasDenoted, HoldsUnder, IsDenotedBySteps, IsDecision, KnowsSteps, few_first_lines, lines_to_pair, open_lines, under_any, with_first};
 ghost use Rattle.pyver_findings.specs.Views.{AddsFound, demand_of, demands_at, demands_of_sets};
-ghost use Rattle.pyver_findings.specs.declared.cause.Cause.TheVariants as cause;
-ghost use Rattle.pyver_markers.specs.EnvironmentViews.{domain_of};
+ghost use Rattle.pyver_requirements.specs.declared.cause.Cause.TheVariants as cause;
+ghost use Rattle.pyver_markers.specs.Environments.{domain_of};
 ghost use Rattle.pyver_requirements.specs.MarkerGrammar.{DenotesMarker};
 
-use crate::cause::Cause;
 use crate::demand::Demand;
 use crate::finding::Finding;
 use crate::group::push_of_all;
@@ -17,7 +16,7 @@ use crate::marker::{excludes_all, find_without_marker, group_by_marker};
 use crate::marker_sets::{find_conflicting_sets, have_same_marker, under_any};
 use crate::smallest::have_none;
 use pyver_markers::{Domain, EnvironmentMarker, push_environment};
-use pyver_requirements::MarkerError;
+use pyver_requirements::{Cause, MarkerError};
 use std::alloc::{AllocError, Global};
 
 // The most markers of one name that are compared.

@@ -25,7 +25,7 @@ pub(crate) fn same_marker(one: &Option<Vec<u8>>, other: &Option<Vec<u8>>) -> boo
     }
 }
 
-#[tactic(auto, using(crate::proofs::Steps::filter_viewed))]
+#[tactic(auto, using(pyver_requirements::proofs::Grouped::filter_viewed))]
 // The lines without a marker.
 pub(crate) fn find_without_marker<'a>(
     alloc: Global,

@@ -49,7 +49,7 @@ fn counts_with(set: &[&Demand], line: &Demand) -> bool
     line.marker.is_none() || have_same_marker(set, line)
 }
 
-#[tactic(auto, using(crate::proofs::Steps::filter_viewed))]
+#[tactic(auto, using(pyver_requirements::proofs::Grouped::filter_viewed))]
 // The lines without a marker, and those with the marker of one of the set.
 pub(crate) fn under_any<'a>(
     alloc: Global,
@@ -105,7 +105,7 @@ fn find_among<'a>(
     Ok(None)
 }
 
-#[tactic(auto, using(crate::proofs::Steps::filter_viewed))]
+#[tactic(auto, using(pyver_requirements::proofs::Grouped::filter_viewed))]
 // Those whose markers these lines have.
 fn find_by_markers<'a>(
     alloc: Global,
@@ -195,7 +195,7 @@ fn join_branch<'a>(alloc: Global, branch: &Branch<'a>) -> Result<Vec<&'a Demand>
     Ok(all)
 }
 
-#[tactic(auto, using(crate::proofs::Steps::filter_viewed))]
+#[tactic(auto, using(pyver_requirements::proofs::Grouped::filter_viewed))]
 // All but those with the marker of the line.
 fn find_others<'a>(
     alloc: Global,

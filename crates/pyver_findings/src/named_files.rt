@@ -3,8 +3,7 @@ ghost use Rattle.std.specs.Prelude.{◌≡◌, ◌++◌, IfOk, map, option_map};
 ghost use Rattle.std.specs.List.{flat_map};
 ghost use Rattle.pyver_findings.specs.NamedFiles.{folder, named_by, named_files, named_in, path_from, path_in, path_position};
 ghost use Rattle.pyver_findings.specs.Views.{file_of, named_file_of, position_of};
-ghost use Rattle.pyver_requirements.specs.LineViews.{line_kind_of};
-ghost use Rattle.pyver_requirements.specs.LineViews.{logical_line_of};
+ghost use Rattle.pyver_requirements.specs.LineKinds.{line_kind_of, logical_line_of};
 
 use crate::file_line::SourceFile;
 use crate::line_meaning::has_scheme;

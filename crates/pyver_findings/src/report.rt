@@ -4,7 +4,6 @@ ghost use Rattle.std.specs.List.{filter};
 ghost use Rattle.pyver_findings.specs.Reports.{IsReport, demands_in, empty_report, invalid_in, is_ignored, joined_report, left_out_in, without_ignored};
 ghost use Rattle.pyver_findings.specs.Views.{AddsFindings, KeepsReadings, demand_of, file_line_of, file_of, finding_of, line_meaning_of, report_of};
 
-use crate::cause::Cause;
 use crate::conflicts::push_conflicts;
 use crate::constraints::push_constraint_findings;
 use crate::demand::Demand;
@@ -13,6 +12,7 @@ use crate::finding::Finding;
 use crate::hashes::push_hash_findings;
 use crate::line_meaning::{LineMeaning, parse_line};
 use pyver_markers::Domain;
+use pyver_requirements::Cause;
 use std::alloc::{AllocError, Global};
 
 /// What is wrong in requirements files, and how much of them was read.

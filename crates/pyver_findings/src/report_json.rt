@@ -1,7 +1,7 @@
 //! A report as JSON.
 ghost use Rattle.std.specs.Prelude.{◌≡◌, ◌++◌, IfOk, map, option_map};
 ghost use Rattle.std.specs.List.{flat_map};
-ghost use Rattle.pyver_findings.specs.ReportObjects.{environment_member, finding_array, finding_members, finding_object, kind_members, line_array, line_members, line_object, next_finding, next_line, reason_members, report_object};
+ghost use Rattle.pyver_findings.specs.ReportTexts.{environment_member, finding_array, finding_members, finding_object, kind_members, line_array, line_members, line_object, next_finding, next_line, reason_members, report_object};
 ghost use Rattle.pyver_findings.specs.Views.{file_line_of, finding_of, report_of};
 
 use crate::file_line::FileLine;

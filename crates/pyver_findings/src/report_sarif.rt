@@ -2,8 +2,7 @@
 ghost use Rattle.std.specs.Prelude.{◌≡◌, ◌+◌, ◌++◌, IfOk, count_by, map};
 ghost use Rattle.std.specs.Fmt.{decimal};
 ghost use Rattle.std.specs.List.{flat_map};
-ghost use Rattle.pyver_findings.specs.ReportObjects.{json_string};
-ghost use Rattle.pyver_findings.specs.ReportTexts.{finding_message};
+ghost use Rattle.pyver_findings.specs.ReportTexts.{json_string, finding_message};
 ghost use Rattle.pyver_findings.specs.SarifLogs.{begins_character, begins_pair, file_uri, finding_location, finding_result, finding_results, first_location, is_path_byte, all_rules, line_location, line_start, log_run, next_result, path_byte, report_log, rule, scheme, suppression, utf16_length};
 ghost use Rattle.pyver_findings.specs.Views.{file_line_of, finding_of, report_of};
 

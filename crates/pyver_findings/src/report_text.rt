@@ -5,11 +5,11 @@ ghost use Rattle.std.specs.List.{flat_map};
 ghost use Rattle.pyver_findings.specs.ReportTexts.{caret_text, cause_text, column_position_text, conflict_text, count_text, counted, environment_line, finding_caret, finding_message, finding_position, finding_text, first_position_text, ignored_text, left_out_lines, left_out_others, left_out_text, left_out_texts, more_text, line_position_text, problems_text, quoted_line, quoted_lines, report_text, same_cause, summary_text};
 ghost use Rattle.pyver_findings.specs.Views.{file_line_of, finding_of, report_of};
 
-use crate::cause::Cause;
 use crate::file_line::FileLine;
 use crate::finding::{Conflict, Finding};
 use crate::report::Report;
 use cli_io::push_escaped;
+use pyver_requirements::Cause;
 use std::alloc::{AllocError, Global};
 
 /// Appends the text.

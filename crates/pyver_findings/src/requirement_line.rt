@@ -2,23 +2,20 @@
 ghost use Rattle.std.specs.Prelude.{◌≡◌, ◌∷◌, [], None, Some, IfOk, IfSome, false, option_map, string_bytes, is_none};
 ghost use Rattle.std.specs.List.{list_any};
 ghost use Rattle.pep440_pick.specs.RequirementGrammar.{RequirementRejection};
-ghost use Rattle.pep440_pick.specs.Requirements.{IsPositioned, IsRequirementLifted, needed, requirement_rejection_of};
-ghost use Rattle.pep440_pick.specs.RequirementTexts.{requirement_rejection_text, requirement_text_of};
+ghost use Rattle.pep440_pick.specs.Requirements.{IsPositioned, IsRequirementLifted, needed, requirement_rejection_of, requirement_rejection_text, requirement_text_of};
 ghost use Rattle.pep440_rs.specs.ErrorTexts.{specifier_rejection_text};
 ghost use Rattle.pep440_rs.specs.Lists.ListResults.{line_for, line_of, list_kind_of};
 ghost use Rattle.pep440_rs.specs.Lists.ListErrors.{IsListLifted, list_rejection_of};
 ghost use Rattle.pep440_rs.specs.Lists.ListErrorTexts.{list_rejection_text, list_text_of};
 ghost use Rattle.pep440_rs.specs.Lists.ListGrammar.{PieceRejection};
-ghost use Rattle.pyver_findings.specs.Columns.{list_column};
+ghost use Rattle.pyver_findings.specs.LineMeanings.{list_column, IsNone, IsPartsMeaning, IsPlain, before_url, requirement_meaning, rejection_meaning, under_marker, with_url, IsListMeaning, list_meaning};
 ghost use Rattle.pyver_findings.specs.FileLines.{Conflicting, NoRequirement};
-ghost use Rattle.pyver_findings.specs.LineMeanings.{IsNone, IsPartsMeaning, IsPlain, before_url, requirement_meaning, rejection_meaning, under_marker, with_url, IsListMeaning, list_meaning};
 ghost use Rattle.pyver_findings.specs.Views.{file_line_of, is_memory_error, line_meaning_of, piece_text_of, reason_text_of};
 ghost use Rattle.pyver_findings.specs.declared.finding.Conflict.TheVariants as of_conflict;
 ghost use Rattle.pyver_requirements.specs.LineParts.{is_blank_byte, line_parts, pip_parts};
-ghost use Rattle.pyver_requirements.specs.LineViews.{line_parts_of};
+ghost use Rattle.pyver_requirements.specs.LineKinds.{line_parts_of};
 ghost use Rattle.pyver_requirements.specs.MarkerReading.{marker};
 
-use crate::cause::Cause;
 use crate::column::{column, list_column, marker_column};
 use crate::demand::Demand;
 use crate::file_line::FileLine;
@@ -28,7 +25,9 @@ use crate::plain::plain_text;
 use pep440_pick::{Requirement, RequirementError, RequirementParseError};
 use pep440_rs::{SpecifiersErrorKind, VersionSpecifiers, VersionSpecifiersParseError};
 use pep440_sets::find_version;
-use pyver_requirements::{LineParts, MarkerError, parse_marker, split_pip_line, split_requirement};
+use pyver_requirements::{
+    Cause, LineParts, MarkerError, parse_marker, split_pip_line, split_requirement,
+};
 use std::alloc::{AllocError, Global};
 
 // The line is no requirement, for this reason.

@@ -1,9 +1,9 @@
 //! What is found in documents.
-use pyver_findings::{Conflict, FileLine, Finding, SourceFile, is_export, parse_demands};
-use pyver_projects::{
+use pyver_documents::{
     Document, DocumentKind, LockKind, find_document_problems, find_export_problems,
     is_document_path, kind_of_path, kind_of_word,
 };
+use pyver_findings::{Conflict, FileLine, Finding, SourceFile, is_export, parse_demands};
 use std::alloc::Global;
 use std::str;
 use testing::CaseError;

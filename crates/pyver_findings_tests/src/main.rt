@@ -11,8 +11,8 @@ use documents::{
 };
 use reports::{
     Form, print_each, print_findings, print_kind, print_lines, print_marker, print_named_files,
-    print_normal, print_parts, print_pip_parts, print_report, print_report_of, print_requirement,
-    print_spans, print_specifiers, print_string,
+    print_parts, print_pip_parts, print_report, print_report_of, print_requirement, print_spans,
+    print_specifiers, print_string,
 };
 use std::alloc::Global;
 use std::io;
@@ -78,7 +78,6 @@ impl Calls for FindingsCalls {
             ("named", [name, text]) => print_named_files(alloc, name.as_str(), text.as_str()),
             ("requirement", [string]) => print_requirement(alloc, string.as_str()),
             ("specifiers", [string]) => print_specifiers(alloc, string.as_str()),
-            ("normal", [name]) => print_normal(alloc, name.as_str()),
             ("string", [bytes]) => print_string(alloc, bytes.as_str()),
             (_, [files]) => answer_files(alloc, call, files.as_str()),
             _ => Err(CaseError::Unreadable),

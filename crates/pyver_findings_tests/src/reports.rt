@@ -1,10 +1,10 @@
 //! Lines, and reports of them.
 use pyver_findings::{
-    Cause, Conflict, FileLine, Finding, LineMeaning, NamedFile, Report, SourceFile, find_problems,
-    normalize_name, parse_requirement, parse_specifiers, push_json_string, push_named_files,
+    Conflict, FileLine, Finding, LineMeaning, NamedFile, Report, SourceFile, find_problems,
+    parse_requirement, parse_specifiers, push_json_string, push_named_files,
 };
 use pyver_requirements::{
-    LineFault, LineKind, LineParts, MarkerError, MarkerFault, classify, logical_lines,
+    Cause, LineFault, LineKind, LineParts, MarkerError, MarkerFault, classify, logical_lines,
     parse_marker, split_pip_line, split_requirement,
 };
 use std::alloc::{AllocError, Global};
@@ -148,12 +148,6 @@ pub fn print_requirement(alloc: Global, string: &str) -> Result<String, CaseErro
 pub fn print_specifiers(alloc: Global, string: &str) -> Result<String, CaseError> {
     let meaning = parse_specifiers(alloc, &line(alloc, string)?, string)?;
     print_meaning(alloc, &meaning)
-}
-
-/// The normal form of a name.
-pub fn print_normal(alloc: Global, name: &str) -> Result<String, CaseError> {
-    let normal = normalize_name(alloc, name)?;
-    Ok(String::from_str(alloc, text(normal.as_slice())?)?)
 }
 
 /// What is printed of a report.

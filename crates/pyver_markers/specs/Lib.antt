@@ -1,7 +1,5 @@
 pub mod Boxes
 pub mod Conditions
 pub mod Environments
-pub mod EnvironmentViews
-pub mod Extents
 pub mod MarkerComparisons
 pub mod MarkerValues

@@ -2,14 +2,12 @@
 ghost use Rattle.std.specs.Prelude.{◌≡◌, [], IfErr, IfOk, IfSome, map, true};
 ghost use Rattle.pyver_markers.specs.Boxes.{HasValueInBoxes, boxes};
 ghost use Rattle.pyver_markers.specs.Conditions.{IsNever};
-ghost use Rattle.pyver_markers.specs.EnvironmentViews.{assignment_of, boxes_of, domain_of, environment_of, extent_of, found_environment};
-ghost use Rattle.pyver_markers.specs.Extents.{IsExample, IsExtent};
+ghost use Rattle.pyver_markers.specs.Environments.{assignment_of, boxes_of, domain_of, environment_of, extent_of, found_environment};
+ghost use Rattle.pyver_markers.specs.MarkerValues.{IsExample, IsExtent, after_step, after_steps, both_hold, earlier_values, either_holds, last_value, value};
 ghost use Rattle.pyver_markers.specs.MarkerComparisons.{compare};
-ghost use Rattle.pyver_markers.specs.MarkerValues.{after_step, after_steps, both_hold, earlier_values, either_holds, last_value, value};
 ghost use Rattle.pyver_requirements.specs.MarkerGrammar.{Both, DenotesMarker, Marker};
 ghost use Rattle.pyver_requirements.specs.MarkerSteps.{marker_steps, steps};
-ghost use Rattle.pyver_requirements.specs.MarkerStepViews.{step_of};
-ghost use Rattle.pyver_requirements.specs.MarkerViews.{IsMarkerFault};
+ghost use Rattle.pyver_requirements.specs.MarkerViews.{step_of, IsMarkerFault};
 
 use crate::emptiness::are_empty;
 use crate::environment::{Domain, Variable};
@@ -46,7 +44,7 @@ pub struct EnvironmentMarker<'a> {
 impl<'a> Model for EnvironmentMarker<'a> {
     ghost use Rattle.std.specs.Prelude.{List, map};
     ghost use Rattle.pyver_requirements.specs.MarkerSteps.{Step};
-    ghost use Rattle.pyver_requirements.specs.MarkerStepViews.{step_of};
+    ghost use Rattle.pyver_requirements.specs.MarkerViews.{step_of};
 
     ghost Value = { List Step };
 
@@ -139,7 +137,7 @@ impl<'a> EnvironmentMarker<'a> {
         Ok(EnvironmentMarker { steps })
     }
 
-    #[tactic(auto, using(crate::proofs::Steps::last_is_value))]
+    #[tactic(auto, using(crate::proofs::Readings::last_is_value))]
     /// The value of the marker in the environment (PEP 508, "Environment Markers"): whether it holds, or `None` if one of its comparisons
     /// is undefined there.
     ///
@@ -155,7 +153,7 @@ impl<'a> EnvironmentMarker<'a> {
         Ok(value)
     }
 
-    #[tactic(auto, using(crate::proofs::Steps::last_is_boxes, crate::proofs::BoxLaws::hold_in_boxes))]
+    #[tactic(auto, using(crate::proofs::Readings::last_is_boxes, crate::proofs::BoxLaws::hold_in_boxes))]
     /// The environments in which the marker has the wanted value, as boxes, of those in which it is defined. `None` if and-ing and or-ing them
     /// comes to more than 1,000 boxes.
     ///

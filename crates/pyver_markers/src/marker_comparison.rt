@@ -3,12 +3,13 @@ ghost use Rattle.std.specs.Prelude.{◌≡◌, ◌==◌, IfOk, bytes_eq, map, op
 ghost use Rattle.std.specs.List.{list_any};
 ghost use Rattle.pep440_pick.specs.Names.{normal};
 ghost use Rattle.pyver_markers.specs.MarkerComparisons.{compare, compare_left, compare_names, compare_right, compare_texts, is_name_variable, is_version_variable};
-ghost use Rattle.pyver_markers.specs.EnvironmentViews.{environment_of, setting_of};
+ghost use Rattle.pyver_markers.specs.Environments.{environment_of, setting_of};
 ghost use Rattle.pyver_requirements.specs.MarkerViews.{side_of};
 
 use crate::environment::{Setting, Variable, find_setting};
-use crate::text::{compare_strings, normalize_name};
+use crate::text::compare_strings;
 use crate::version::compare_versions;
+use pep440_pick::normalize_bytes;
 use pyver_requirements::{MarkerOperator, Side};
 use std::alloc::{AllocError, Global};
 
@@ -32,10 +33,10 @@ fn is_name_variable(name: &[u8]) -> bool
 fn has_name(alloc: Global, names: &[&[u8]], name: &[u8]) -> Result<bool, AllocError>
     ensures { IfOk result (λ b. b ≡ list_any (λ n. bytes_eq (normal n) (normal name.now)) (map (λ n. n.now) names.now)) }
 {
-    let name = normalize_name(alloc, name)?;
+    let name = normalize_bytes(alloc, name)?;
     let mut rest = names;
     while let [other, later @ ..] = rest {
-        if normalize_name(alloc, other)?.as_slice() == name.as_slice() {
+        if normalize_bytes(alloc, other)?.as_slice() == name.as_slice() {
             return Ok(true);
         }
         rest = later;
@@ -77,8 +78,8 @@ pub(crate) fn compare_texts(
     if is_version_variable(name) {
         compare_versions(alloc, left, operator, right)
     } else if is_name_variable(name) {
-        let left = normalize_name(alloc, left)?;
-        let right = normalize_name(alloc, right)?;
+        let left = normalize_bytes(alloc, left)?;
+        let right = normalize_bytes(alloc, right)?;
         Ok(compare_strings(left.as_slice(), operator, right.as_slice()))
     } else {
         Ok(compare_strings(left, operator, right))

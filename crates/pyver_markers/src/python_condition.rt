@@ -5,10 +5,9 @@ ghost use Rattle.pep440_rs.specs.Denoted.{IsDenotable};
 ghost use Rattle.pep440_sets.specs.Sets.{is_exact};
 ghost use Rattle.pep440_version.specs.Key.{record_cmp};
 ghost use Rattle.pep440_version.specs.Record.{Record};
-ghost use Rattle.pyver_markers.specs.EnvironmentViews.{condition_of};
+ghost use Rattle.pyver_markers.specs.Environments.{condition_of, Environment};
 ghost use Rattle.pyver_markers.specs.Boxes.{in_box};
 ghost use Rattle.pyver_markers.specs.Conditions.{HasAllowed, HasPython, IsAllowed, HoldsShortMatchesOf, HoldsShortMet, NarrowsByAllShort, NarrowsByShort, first_two, short_version};
-ghost use Rattle.pyver_markers.specs.Environments.{Environment};
 ghost use Rattle.pyver_markers.specs.MarkerComparisons.{is_version_variable};
 
 use crate::environment_box::Condition;

@@ -2,8 +2,7 @@
 ghost use Rattle.std.specs.Prelude.{◌≡◌, IfOk, Some, false, map, true};
 ghost use Rattle.pyver_markers.specs.Boxes.{in_box};
 ghost use Rattle.pyver_markers.specs.Conditions.{LacksOthers, LacksSystem, first_asked};
-ghost use Rattle.pyver_markers.specs.Environments.{Environment, HasSystem, Text, has_known_name, is_known_system, has_either_name, has_windows_name, is_system, same_system, system};
-ghost use Rattle.pyver_markers.specs.EnvironmentViews.{condition_of, system_of};
+ghost use Rattle.pyver_markers.specs.Environments.{Environment, HasSystem, Text, has_known_name, is_known_system, has_either_name, has_windows_name, is_system, same_system, system, condition_of, system_of};
 
 use crate::environment_box::Condition;
 use crate::text_condition::{are_met_at, find_first_text};
@@ -112,7 +111,7 @@ fn is_asked(name: &str, text: &str, conditions: &[Condition<'_>]) -> bool
     }
 }
 
-#[tactic(auto, using(crate::proofs::Systems::platform_asked, crate::proofs::Systems::sys_asked))]
+#[tactic(auto, using(crate::proofs::FoundEnvironments::platform_asked, crate::proofs::FoundEnvironments::sys_asked))]
 // Whether a variable is to be equal to one of these names.
 fn asks_name(sys: &str, platform: &str, conditions: &[Condition<'_>]) -> bool
     ensures { result ≡ true → LacksOthers (map condition_of conditions.now) (λ s. has_either_name s sys.now platform.now) }
@@ -123,7 +122,7 @@ fn asks_name(sys: &str, platform: &str, conditions: &[Condition<'_>]) -> bool
     is_asked("platform_system", platform, conditions)
 }
 
-#[tactic(auto, using(crate::proofs::Systems::os_asked, crate::proofs::Systems::windows_named))]
+#[tactic(auto, using(crate::proofs::FoundEnvironments::os_asked, crate::proofs::FoundEnvironments::windows_named))]
 fn asks_windows_name(conditions: &[Condition<'_>]) -> bool
     ensures { result ≡ true → LacksOthers (map condition_of conditions.now) has_windows_name }
 {
@@ -133,7 +132,7 @@ fn asks_windows_name(conditions: &[Condition<'_>]) -> bool
     asks_name("win32", "Windows", conditions)
 }
 
-#[tactic(auto, using(crate::proofs::Systems::linux_asked, crate::proofs::Systems::windows_asked, crate::proofs::Systems::macos_asked, crate::proofs::Systems::android_asked, crate::proofs::Systems::ios_asked))]
+#[tactic(auto, using(crate::proofs::FoundEnvironments::linux_asked, crate::proofs::FoundEnvironments::windows_asked, crate::proofs::FoundEnvironments::macos_asked, crate::proofs::FoundEnvironments::android_asked, crate::proofs::FoundEnvironments::ios_asked))]
 // Whether not all conditions are met on a system that is not known.
 fn excludes_others(conditions: &[Condition<'_>]) -> bool
     ensures { result ≡ true → LacksOthers (map condition_of conditions.now) has_known_name }
@@ -153,7 +152,7 @@ fn excludes_others(conditions: &[Condition<'_>]) -> bool
     asks_name("ios", "iOS", conditions)
 }
 
-#[tactic(auto, using(crate::proofs::Systems::all_lack))]
+#[tactic(auto, using(crate::proofs::FoundEnvironments::all_lack))]
 // Whether not all conditions are met on any system.
 pub(crate) fn excludes_systems(
     alloc: Global,

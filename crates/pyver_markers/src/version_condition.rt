@@ -4,10 +4,9 @@ ghost use Rattle.pep440_ranges.specs.RangeSegments.{contains};
 ghost use Rattle.pep440_rs.specs.Denoted.{IsDenotable, IsDenoted};
 ghost use Rattle.pep440_version.specs.Key.{record_cmp};
 ghost use Rattle.pep440_version.specs.Record.{Record};
-ghost use Rattle.pyver_markers.specs.EnvironmentViews.{condition_of};
+ghost use Rattle.pyver_markers.specs.Environments.{condition_of, Environment};
 ghost use Rattle.pyver_markers.specs.Boxes.{in_box};
 ghost use Rattle.pyver_markers.specs.Conditions.{HasVersion, HoldsMatchesOf, HoldsMet, HoldsVersionsOf, Narrows};
-ghost use Rattle.pyver_markers.specs.Environments.{Environment};
 ghost use Rattle.pyver_markers.specs.MarkerComparisons.{is_version_variable};
 
 use crate::environment_box::Condition;

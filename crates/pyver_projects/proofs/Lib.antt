@@ -1,6 +1,1 @@
 pub mod Walks
-pub mod LockedPackages
-pub mod Holding
-pub mod Agreeing
-pub mod Once
-pub mod ExportsFound

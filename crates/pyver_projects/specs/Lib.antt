@@ -1,11 +1,3 @@
 pub mod ProjectStrings
-pub mod PackageRequirements
-pub mod LockedFiles
-pub mod ContentHashes
-pub mod Documents
-pub mod KnownEnvironments
-pub mod Meanings
-pub mod ProjectViews
-pub mod Together
-pub mod Comparing
-pub mod ProjectLaws
+pub mod RequirementStrings
+pub mod ProjectTables

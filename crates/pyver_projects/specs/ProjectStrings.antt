@@ -1,17 +1,25 @@
--- What documents have: values of TOML that are tables, arrays or strings; strings that are to be requirements, lists of specifiers or versions,
--- and locked packages; and where they stand.
-use Rattle.std.specs.Prelude.{Bool, List, None, Option, Some, [], bytes_eq, codes, count_by, drop, if◌then◌else◌, length, map, nat_eq, nat_lt, not, suc, take, true, zero, ℕ, ◌%◌, ◌&&◌, ◌++◌, ◌+◌, ◌==◌, ◌||◌, ◌∷◌, ◌≡◌, is_some, option_and_then, option_to_list}
-use Rattle.std.specs.List.{filter, flat_map, list_any, prefix_len, starts_with, suffix_len}
-use Rattle.std.specs.Option.{option_or}
+-- What stands in the documents of a project: values of TOML that are tables, arrays or strings; strings of `pyproject.toml` or a Pipfile that are to be
+-- requirements, lists of specifiers or versions; on which lines they stand; and maps with names: repeated ones, and inclusions by the groups that have them.
+use Rattle.std.specs.Prelude.{List, [], ◌∷◌, ℕ, Option, option_and_then, None, Some, Bool, true, is_some, option_to_list, map, bytes_eq, ◌&&◌, suc, zero, ◌||◌, length, ◌==◌, not, if◌then◌else◌, nat_lt, take, count_by, ◌+◌, nat_eq, ◌++◌, ◌≡◌, codes, drop, ◌%◌, option_map, string_bytes}
 use Rattle.std.specs.BTreeMap.{get_by}
 use Rattle.std.specs.Cmp.Lexicographic.{slice_cmp}
+use Rattle.std.specs.List.{flat_map, list_any, prefix_len, starts_with, filter}
+use Rattle.std.specs.Option.{option_or, option_map_or}
 use Rattle.std.specs.Ordering.{nat_cmp}
-use Rattle.pyver_findings.specs.declared.cause.Cause.{Cause}
-use Rattle.pyver_projects.specs.declared.locked_package.HashRule.{HashRule}
+use Rattle.toml.specs.Data.{Data, Items, item, no_items, Members, member, no_members, get, as_array, as_table, as_str}
 use Rattle.pyver_projects.specs.declared.place.Places.{Places}
 use Rattle.pyver_projects.specs.declared.place.QuotedLines.{QuotedLines}
 use Rattle.pyver_projects.specs.declared.project.EntryTool.{EntryTool}
-use Rattle.toml.specs.Data.{Data, Items, Members, as_array, as_str, as_table, get, item, member, no_items, no_members}
+use Rattle.pyver_requirements.specs.declared.cause.Cause.{Cause}
+use Rattle.std.specs.Borrow.{Bor}
+use Rattle.std.specs.HashMap.{HashMap, get_by}
+use Rattle.pyver_projects.specs.declared.inclusions.Inclusion.{Inclusion as InclusionValue}
+use Rattle.pyver_projects.specs.declared.inclusions.InclusionIndex.{InclusionIndex}
+use Rattle.pyver_projects.specs.declared.inclusions.NameIndex.{NameIndex}
+use Rattle.pyver_projects.specs.declared.place.KeyLine.{KeyLine as KeyLineValue}
+use Rattle.pyver_projects.specs.declared.project.ProjectString.{ProjectString as SourceValue}
+use Rattle.pyver_projects.specs.declared.project.Section.{Section as SectionValue}
+use Rattle.pyver_projects.specs.declared.project.Section.TheVariants as section
 
 abbrev pub items_list : Items → List Data
 items_list no_items = []
@@ -88,80 +96,6 @@ pub data Section : Type 0 where
 pub record ProjectString : Type 0 where
   pub section : Section
   pub text : List ℕ
-
--- where a lock has a package: for these Pythons where the marker holds, as both are written
-pub record PackageCondition : Type 0 where
-  pub python : List ℕ
-  pub marker : List ℕ
-
--- a package in a lock: the number of its line, its name and its version, if it has one, as they are written, the extras that it is for, in normal form, and
--- where it is, if not everywhere
-pub record LockedPackage : Type 0 where
-  pub line : ℕ
-  pub name : List ℕ
-  pub version : Option (List ℕ)
-  pub extras : List (List ℕ)
-  pub condition : Option PackageCondition
-
--- a requirement of a locked package: the number of the line and the name and version of that package, the name that it requires, the extras that it asks
--- for and the list of specifiers as they are written, and whether it only refers to another package, which may have a marker (PEP 751,
--- `packages.dependencies`)
-pub record LockedRequirement : Type 0 where
-  pub line : ℕ
-  pub requirer : List ℕ
-  pub name : List ℕ
-  pub extras : List (List ℕ)
-  pub list : List ℕ
-  pub is_reference : Bool
-
--- a requirement that a locked package has for one of its extras, and the key of both
-pub record LockedExtra : Type 0 where
-  pub key : List ℕ
-  pub requirement : LockedRequirement
-
--- a file of a locked package, in whose name a version stands: the number of the line of that package, its name and its version, the name of
--- the file, and the version in it, as they are written
-pub record LockedFile : Type 0 where
-  pub line : ℕ
-  pub name : List ℕ
-  pub version : List ℕ
-  pub file : List ℕ
-  pub written : List ℕ
-
--- what is wrong with a locked package beside others: the number of its line, what is shown of it, and why
-pub record LockFault : Type 0 where
-  pub line : ℕ
-  pub text : List ℕ
-  pub reason : List ℕ
-
--- the hash of its project that a lock has, in hexadecimal digits, and what is hashed
-pub record ContentHash : Type 0 where
-  pub rule : HashRule
-  pub value : List ℕ
-
--- the parts of a project that a lock has, in normal form: the names of its groups and extras, with `default` for the dependencies; and what `extras` and
--- `dependency_groups` are in its markers where all that it has is installed; and the markers of the environments that it is for, or none (PEP 751,
--- "Installation"); the hash of the project, if it is known what is hashed; for which versions of Python the lock says that the project in its folder is; and
--- whether it has a package for each set of extras that is asked for
-pub record LockParts : Type 0 where
-  pub names : List (List ℕ)
-  pub extras : List (List ℕ)
-  pub groups : List (List ℕ)
-  pub environments : List (List ℕ)
-  pub hash : Option ContentHash
-  pub python : Option (List ℕ)
-  pub by_extras : Bool
-
--- what is read of a lock: what packages require, also for the extras that their requirements ask for, and for other extras; `entries` are what it says that
--- the project in its folder requires
-pub record LockContents : Type 0 where
-  pub parts : LockParts
-  pub packages : List LockedPackage
-  pub requirements : List LockedRequirement
-  pub optional : List LockedExtra
-  pub entries : List LockedRequirement
-  pub files : List LockedFile
-  pub faults : List LockFault
 
 -- ---- what includes others
 
@@ -266,10 +200,6 @@ key_path table key = table ++ (filter is_key_byte key ++ codes ".")
 abbrev pub line_at : List ℕ → List ℕ
 line_at text = take (others 10 text) text
 
--- how many bytes stand behind the last newline
-abbrev pub last_bytes : List ℕ → ℕ
-last_bytes text = suffix_len (λ b. not (b == 10)) text
-
 abbrev pub after_blanks : List ℕ → List ℕ
 after_blanks line = drop (prefix_len (λ b. b == 32 || b == 9) line) line
 
@@ -354,3 +284,66 @@ string_number text section string = number_or_one (option_or (own_line text sect
 -- each path and string has the number of its first line in the document
 abbrev pub HasPlaces : Places → Type 0
 HasPlaces places = HasQuotedLines places.quoted × ((path : List ℕ) → get_by (λ k. slice_cmp nat_cmp path k.now) places.keys ≡ key_line places.quoted.text.now path)
+
+abbrev pub section_of : SectionValue → Section
+section_of section.Dependencies = Dependencies
+section_of (section.Extra name) = Extra name.items
+section_of (section.Group name) = Group name.items
+section_of (section.Include group included) = Include group.items included.items
+section_of (section.OwnExtras asker extras) = OwnExtras (option_map (λ n. n.items) asker) (map (λ e. e.items) extras.items)
+section_of (section.Invalid table reason) = Invalid table.items reason.now
+section_of (section.Entry tool table name) = Entry tool table.items name.items
+section_of section.Constraint = Constraint
+section_of (section.Environment is_installed table) = Environment is_installed table.items
+section_of (section.Unread c) = Unread c
+section_of section.Build = Build
+section_of section.Python = Python
+section_of section.Version = Version
+
+abbrev pub key_line_of : KeyLineValue → KeyLine
+key_line_of k = record { path = k.path.items; line = k.number }
+
+abbrev pub project_string_of : SourceValue → ProjectString
+project_string_of s = record { section = section_of s.section; text = string_bytes s.text }
+
+abbrev pub inclusion_of : InclusionValue → Inclusion
+inclusion_of i = record { group = i.group.items; included = i.included.items }
+
+-- ---- sets of names
+
+-- the name is in the set
+abbrev pub has_key : {X S : Type 0} → HashMap (Bor (List ℕ)) X S → List ℕ → Bool
+has_key names name = is_some (get_by (λ k. bytes_eq name k.now) names)
+
+-- those of the set are those before, and these
+abbrev pub IsFound : {X S : Type 0} → (List ℕ → Bool) → HashMap (Bor (List ℕ)) X S → List (Bor (List ℕ)) → Type 0
+IsFound before names found = (q : List ℕ) → has_key names q ≡ (before q || list_any (bytes_eq q) (map (λ n. n.now) found))
+
+-- the names with this property were added
+abbrev pub GainsNames : {X S : Type 0} → HashMap (Bor (List ℕ)) X S → HashMap (Bor (List ℕ)) X S → (List ℕ → Bool) → Type 0
+GainsNames old new more = (q : List ℕ) → has_key new q ≡ (has_key old q || more q)
+
+-- what was added is found, too
+abbrev pub KeepsFound : {X S : Type 0} → HashMap (Bor (List ℕ)) X S → HashMap (Bor (List ℕ)) X S → List (Bor (List ℕ)) → List (Bor (List ℕ)) → Type 0
+KeepsFound old new found more = (before : List ℕ → Bool) → IsFound before old found → IsFound before new more
+
+-- ---- repeated names
+
+-- what is kept of a name that stands there so often: whether it is repeated
+abbrev pub is_repeated : ℕ → Option Bool
+is_repeated n = if nat_eq n 0 then None else Some (nat_lt 1 n)
+
+abbrev pub indexed_names : NameIndex → List (List ℕ)
+indexed_names index = map (λ n. n.items) index.names.now
+
+abbrev pub IsNameIndex : NameIndex → Type 0
+IsNameIndex index = (q : List ℕ) → get_by (λ k. bytes_eq q k.now) index.repeated ≡ is_repeated (count_by (bytes_eq q) (indexed_names index))
+
+-- ---- inclusions by their groups
+
+abbrev pub inclusions_of : InclusionIndex → List Inclusion
+inclusions_of index = map inclusion_of index.inclusions.now
+
+-- under each name stand the inclusions of the group with this name, in their order
+abbrev pub IsInclusionIndex : InclusionIndex → Type 0
+IsInclusionIndex index = (q : List ℕ) → map (λ i. inclusion_of i.now) (option_map_or (λ group. group.items) (get_by (λ k. bytes_eq q k.now) index.by_group) []) ≡ filter (λ i. bytes_eq q i.group) (inclusions_of index)

@@ -1,10 +1,9 @@
 //! What environments of Hatch require.
-ghost use Rattle.std.specs.Prelude.{◌≡◌, ◌++◌, IfOk, codes, map, option_map, string_bytes};
+ghost use Rattle.std.specs.Prelude.{◌≡◌, option_map, IfOk, string_bytes, ◌++◌, codes, map};
 ghost use Rattle.std.specs.List.{flat_map};
-ghost use Rattle.pyver_projects.specs.Documents.{array_name, array_sources, environment_array, environment_sources, environments_sources, has_project, has_install_key};
-ghost use Rattle.pyver_projects.specs.ProjectStrings.{Environment, key_path, members_list};
-ghost use Rattle.pyver_projects.specs.ProjectViews.{project_string_of};
-ghost use Rattle.toml.specs.View.{table_view, view};
+ghost use Rattle.toml.specs.View.{view, table_view};
+ghost use Rattle.pyver_projects.specs.ProjectStrings.{Environment, key_path, members_list, project_string_of};
+ghost use Rattle.pyver_projects.specs.ProjectTables.{has_install_key, has_project, array_name, array_sources, environment_array, environment_sources, environments_sources};
 
 use crate::place::key_path;
 use crate::project::{ProjectString, Section, push_array};
@@ -55,7 +54,7 @@ fn push_items(
 }
 
 // Adds the requirements in the array with this key of the environment with this name.
-#[tactic(auto, unfolding(crate::specs::Documents::environment_array))]
+#[tactic(auto, unfolding(crate::specs::ProjectTables::environment_array))]
 fn push_environment_array(
     alloc: Global,
     sources: &mut Vec<ProjectString>,

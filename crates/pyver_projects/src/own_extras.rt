@@ -1,27 +1,23 @@
 //! Extras of a project that it asks for itself.
-ghost use Rattle.std.specs.Prelude.{◌≡◌, IfOk, bytes_eq, codes, false, map, option_copied, option_map, option_to_list, string_bytes};
+ghost use Rattle.std.specs.Prelude.{◌≡◌, codes, option_copied, IfOk, map, string_bytes, bytes_eq, option_map, option_to_list, false};
+ghost use Rattle.std.specs.Char.{is_ascii_whitespace};
+ghost use Rattle.std.specs.List.{list_any};
 ghost use Rattle.std.specs.Option.{option_map_or};
 ghost use Rattle.pep440_pick.specs.Names.{normal};
 ghost use Rattle.pep440_pick.specs.RequirementReading.{name_of};
 ghost use Rattle.pep440_version.specs.Changes.ChangeWords.{after};
 ghost use Rattle.pep440_version.specs.Reading.{past};
-ghost use Rattle.std.specs.Char.{is_ascii_whitespace};
-ghost use Rattle.pyver_projects.specs.Documents.{asker_in, asks_itself, extra_names, has_dynamic_extras, own_names, own_section, own_string, sources};
-ghost use Rattle.pyver_projects.specs.PackageRequirements.{in_brackets, is_conditional, string_extras};
-ghost use Rattle.pyver_projects.specs.ProjectViews.{project_string_of, section_of};
-ghost use Rattle.std.specs.List.{list_any};
 ghost use Rattle.toml.specs.Data.{as_str};
-ghost use Rattle.toml.specs.View.{table_view, view};
+ghost use Rattle.toml.specs.View.{view, table_view};
+ghost use Rattle.pyver_projects.specs.ProjectTables.{asker_in, own_section, own_string, has_dynamic_extras, own_names, sources, extra_names};
+ghost use Rattle.pyver_projects.specs.ProjectStrings.{section_of, project_string_of};
+ghost use Rattle.pyver_projects.specs.RequirementStrings.{in_brackets, string_extras, is_conditional};
 
-use crate::lock_comparison::is_project_name;
-use crate::lock_faults::project_name;
-use crate::locked_package::split_at_byte;
-use crate::package_requirements::split_name;
-use crate::project::{ProjectString, Section, written_strings};
+use crate::project::{ProjectString, Section, is_project_name, project_name, written_strings};
+use crate::requirement_strings::{split_at_byte, split_name};
 use crate::table::{inside, items, top};
 use crate::tool_tables::names_in;
-use pep440_pick::copy_extras;
-use pyver_findings::{normalize_name, normalize_names};
+use pep440_pick::{copy_extras, normalize_name, normalize_names};
 use std::alloc::{AllocError, Global};
 use toml::{Table, Value};
 
@@ -52,16 +48,20 @@ fn in_brackets(rest: &str) -> &str
     }
 }
 
-// The extras behind the name that the string begins with, as they are written.
-pub(crate) fn string_extras(alloc: Global, text: &str) -> Result<Vec<String>, AllocError>
+/// The extras after the name that the string begins with, as they are written.
+///
+/// Allocates.
+pub fn string_extras(alloc: Global, text: &str) -> Result<Vec<String>, AllocError>
     ensures { IfOk result (λ extras. map string_bytes extras.items ≡ string_extras text.now) }
 {
     let (_, rest) = split_name(skip_blanks(text));
     copy_extras(alloc, in_brackets(skip_blanks(rest)))
 }
 
-// The string has a marker or a URL.
-pub(crate) fn is_conditional(text: &str) -> bool
+/// The string has a marker or a URL.
+///
+/// Allocates nothing.
+pub fn is_conditional(text: &str) -> bool
     ensures { result ≡ is_conditional text.now }
 {
     let bytes = text.as_bytes();
@@ -134,7 +134,7 @@ fn any_extras_field(fields: &[Value]) -> bool
 }
 
 // The table `project` does not have all extras.
-#[tactic(auto, using(pyver_findings::proofs::Steps::any_viewed))]
+#[tactic(auto, using(pyver_requirements::proofs::Grouped::any_viewed))]
 fn has_dynamic_extras(document: &Table) -> bool
     ensures { result ≡ has_dynamic_extras (table_view document.now) }
 {
@@ -166,11 +166,10 @@ fn own_strings(
     Ok(found)
 }
 
-// The strings of `pyproject.toml`, or of a Pipfile.
-pub(crate) fn project_strings(
-    alloc: Global,
-    document: &Table,
-) -> Result<Vec<ProjectString>, AllocError>
+/// The strings of `pyproject.toml`, or of a Pipfile.
+///
+/// Allocates.
+pub fn project_strings(alloc: Global, document: &Table) -> Result<Vec<ProjectString>, AllocError>
     ensures { IfOk result (λ found. map project_string_of found.items ≡ sources (table_view document.now)) }
 {
     let name = own_name(alloc, document)?;
@@ -179,9 +178,11 @@ pub(crate) fn project_strings(
     Ok(found)
 }
 
-// The names of its extras, by PEP 621 or as Poetry has them.
+/// The names of its extras, by PEP 621 or as Poetry has them.
+///
+/// Allocates.
 #[tactic(auto, using(crate::proofs::Walks::joined_views))]
-pub(crate) fn extra_names(alloc: Global, document: &Table) -> Result<Vec<Vec<u8>>, AllocError>
+pub fn extra_names(alloc: Global, document: &Table) -> Result<Vec<Vec<u8>>, AllocError>
     ensures { IfOk result (λ names. map (λ n. n.items) names.items ≡ extra_names (table_view document.now)) }
 {
     let poetry = inside(top(document, "tool"), "poetry");

@@ -1,39 +1,34 @@
-//! Where keys, strings and packages stand in a document.
-ghost use Rattle.std.specs.Prelude.{◌≡◌, ◌++◌, IfOk, ◌≤◌, ◌==◌, ◌||◌, ◌%◌, List, count_by, length, map, not, option_map, take, ℕ};
-ghost use Rattle.pyver_findings.specs.Views.{file_line_of};
-ghost use Rattle.pyver_projects.specs.Meanings.{IsBrokenReading, broken_at, string_line};
-ghost use Rattle.pyver_projects.specs.ProjectStrings.{HasPlaces, HasQuotedLines, after_blanks, before_next, document_keys, first_key, first_line, header_lines, header_name, is_key_byte, is_string_quote, key_line, key_on, key_path, known_line, last_bytes, line_after, line_at, line_key, line_keys, number_or, number_or_one, opened_string, others, own_line, section_path, string_number, table_after, table_path};
-ghost use Rattle.pyver_projects.specs.ProjectViews.{document_reading_of, key_line_of, project_string_of, section_of};
+//! The lines of a document on which keys, strings and packages stand.
+ghost use Rattle.std.specs.Prelude.{◌≡◌, ◌≤◌, length, option_map, IfOk, List, ℕ, ◌==◌, ◌||◌, ◌%◌, count_by, not, ◌++◌, map};
 ghost use Rattle.std.specs.BTreeMap.{get_by};
-ghost use Rattle.std.specs.List.{filter, prefix_len};
 ghost use Rattle.std.specs.Cmp.Lexicographic.{slice_cmp};
+ghost use Rattle.std.specs.List.{filter, prefix_len};
 ghost use Rattle.std.specs.Ordering.{nat_cmp};
+ghost use Rattle.pyver_projects.specs.ProjectStrings.{is_string_quote, others, before_next, opened_string, line_after, number_or, HasQuotedLines, known_line, number_or_one, is_key_byte, key_path, line_at, after_blanks, header_name, line_key, table_path, table_after, key_on, line_keys, document_keys, first_key, HasPlaces, key_line, own_line, section_path, first_line, string_number, header_lines, key_line_of, section_of};
 
-use crate::document_reading::DocumentReading;
-use crate::project::{ProjectString, Section};
-use pyver_findings::{FileLine, Finding};
+use crate::project::Section;
 use std::alloc::{AllocError, Global};
 use std::collections::BTreeMap;
 
-// A document, and of each string that stands in quotes in it the number of its first line.
+/// A document, and of each string that stands in quotes in it the number of its first line.
 #[derive(Drop)]
-pub(crate) struct QuotedLines<'a> {
-    pub(crate) text: &'a [u8],
+pub struct QuotedLines<'a> {
+    pub text: &'a [u8],
     numbers: BTreeMap<&'a [u8], usize>,
 }
 
-// A key of a line, or a table of which it is the header.
+/// A key of a line, or a table of which it is the header.
 #[derive(Drop)]
-pub(crate) struct KeyLine {
+pub struct KeyLine {
     // With a dot after each key.
     path: Vec<u8>,
     number: usize,
 }
 
-// A document, and the numbers of the first lines of its strings and, by their paths, of its keys.
+/// A document, and the numbers of the first lines of its strings and, by their paths, of its keys.
 #[derive(Drop)]
-pub(crate) struct Places<'a> {
-    pub(crate) quoted: QuotedLines<'a>,
+pub struct Places<'a> {
+    pub quoted: QuotedLines<'a>,
     keys: BTreeMap<&'a [u8], usize>,
 }
 
@@ -72,8 +67,10 @@ fn opened_string(text: &[u8]) -> Option<&[u8]>
     }
 }
 
-// The number of the line after this.
-pub(crate) fn line_after(before: &[u8]) -> usize
+/// The number of the line after this.
+///
+/// Allocates nothing.
+pub fn line_after(before: &[u8]) -> usize
     ensures { result ≡ line_after before.now }
 {
     before.iter().filter(|byte| **byte == b'\n').count() + 1
@@ -93,8 +90,10 @@ fn put_string<'a>(
     Ok(())
 }
 
-// The lines of the strings of a document, in one pass from its end, so that the first line of a string stays.
-pub(crate) fn read_quoted_lines(alloc: Global, text: &[u8]) -> Result<QuotedLines<'_>, AllocError>
+/// The lines of the strings of a document, in one pass from its end, so that the first line of a string stays.
+///
+/// Allocates.
+pub fn read_quoted_lines(alloc: Global, text: &[u8]) -> Result<QuotedLines<'_>, AllocError>
     ensures text { IfOk result (λ lines. lines.text.now ≡ text.now) }
     ensures lines { IfOk result HasQuotedLines }
 {
@@ -109,8 +108,10 @@ pub(crate) fn read_quoted_lines(alloc: Global, text: &[u8]) -> Result<QuotedLine
     Ok(QuotedLines { text, numbers })
 }
 
-// The number of the first line on which the string stands in quotes, or 1.
-pub(crate) fn line_number(lines: &QuotedLines, string: &[u8]) -> u64
+/// The number of the first line on which the string stands in quotes, or 1.
+///
+/// Allocates nothing.
+pub fn line_number(lines: &QuotedLines, string: &[u8]) -> u64
     ensures { result ≡ number_or_one (known_line lines.now string.now) }
 {
     match lines.numbers.get(string) {
@@ -137,8 +138,10 @@ fn key_bytes(alloc: Global, key: &[u8]) -> Result<Vec<u8>, AllocError>
         .collect(alloc)
 }
 
-// The path of a key in the table, or of the name of a table in another.
-pub(crate) fn key_path(alloc: Global, table: &[u8], key: &[u8]) -> Result<Vec<u8>, AllocError>
+/// The path of a key in the table, or of the name of a table in another.
+///
+/// Allocates.
+pub fn key_path(alloc: Global, table: &[u8], key: &[u8]) -> Result<Vec<u8>, AllocError>
     ensures { IfOk result (λ path. path.items ≡ key_path table.now key.now) }
 {
     let mut path = Vec::from_slice(alloc, table)?;
@@ -147,8 +150,10 @@ pub(crate) fn key_path(alloc: Global, table: &[u8], key: &[u8]) -> Result<Vec<u8
     Ok(path)
 }
 
-// What the text begins with, up to a newline.
-fn line_at(text: &[u8]) -> &[u8]
+/// What the text begins with, up to a newline.
+///
+/// Allocates nothing.
+pub fn line_at(text: &[u8]) -> &[u8]
     ensures { result.now ≡ line_at text.now }
 {
     &text[..count_others(text, b'\n')]
@@ -266,8 +271,10 @@ fn read_line(
     table_after(alloc, table, name)
 }
 
-// The keys of the lines of a document.
-pub(crate) fn document_keys(alloc: Global, text: &[u8]) -> Result<Vec<KeyLine>, AllocError>
+/// The keys of the lines of a document.
+///
+/// Allocates.
+pub fn document_keys(alloc: Global, text: &[u8]) -> Result<Vec<KeyLine>, AllocError>
     ensures { IfOk result (λ keys. map key_line_of keys.items ≡ document_keys text.now) }
 {
     let mut keys = Vec::new(alloc);
@@ -286,11 +293,10 @@ pub(crate) fn document_keys(alloc: Global, text: &[u8]) -> Result<Vec<KeyLine>, 
     Ok(keys)
 }
 
-// The number of the first line of each key.
-pub(crate) fn number_keys(
-    alloc: Global,
-    keys: &[KeyLine],
-) -> Result<BTreeMap<&[u8], usize>, AllocError>
+/// The number of the first line of each key.
+///
+/// Allocates.
+pub fn number_keys(alloc: Global, keys: &[KeyLine]) -> Result<BTreeMap<&[u8], usize>, AllocError>
     ensures { IfOk result (λ numbers. (path : List ℕ) → get_by (λ k. slice_cmp nat_cmp path k.now) numbers ≡ first_key path (map key_line_of keys.now)) }
 {
     let mut numbers = BTreeMap::new(alloc);
@@ -304,8 +310,10 @@ pub(crate) fn number_keys(
     Ok(numbers)
 }
 
-// Where strings stand in a document, and these, its keys.
-pub(crate) fn read_places<'a>(
+/// The lines of the strings in a document, and of these, its keys.
+///
+/// Allocates.
+pub fn read_places<'a>(
     alloc: Global,
     text: &'a [u8],
     keys: &'a [KeyLine],
@@ -378,8 +386,10 @@ fn quoted_line(places: &Places, string: &[u8]) -> Option<usize>
     places.quoted.numbers.get(string).copied()
 }
 
-// The number of the line of a string: a key has its own, another string the first on which it opens, or that of what it stands in.
-fn string_number(
+/// The number of the line of a string: a key has its own, another string the first on which it opens, or the line of what it stands in.
+///
+/// Allocates.
+pub fn string_number(
     alloc: Global,
     places: &Places,
     section: &Section,
@@ -398,30 +408,10 @@ fn string_number(
     }
 }
 
-// A string as a line of the file with this name.
-pub(crate) fn string_line(
-    alloc: Global,
-    name: &[u8],
-    places: &Places,
-    string: &ProjectString,
-) -> Result<FileLine, AllocError>
-    requires { HasPlaces places.now }
-    ensures { IfOk result (λ line. file_line_of line ≡ string_line (record { name = name.now; text = places.now.quoted.text.now }) (project_string_of string.now)) }
-{
-    Ok(FileLine {
-        file: Vec::from_slice(alloc, name)?,
-        number: string_number(alloc, places, &string.section, string.text.as_bytes())?,
-        text: Vec::from_slice(alloc, string.text.as_bytes())?,
-        comment: Vec::new(alloc),
-    })
-}
-
-// The numbers of the lines that begin with the header.
-pub(crate) fn header_lines(
-    alloc: Global,
-    header: &[u8],
-    text: &[u8],
-) -> Result<Vec<u64>, AllocError>
+/// The numbers of the lines that begin with the header.
+///
+/// Allocates.
+pub fn header_lines(alloc: Global, header: &[u8], text: &[u8]) -> Result<Vec<u64>, AllocError>
     ensures { IfOk result (λ lines. lines.items ≡ header_lines header.now text.now) }
 {
     let mut lines = Vec::new(alloc);
@@ -439,26 +429,10 @@ pub(crate) fn header_lines(
     Ok(lines)
 }
 
-// How many bytes stand after the last newline.
-fn count_last_bytes(text: &[u8]) -> usize
-    ensures count { result ≡ last_bytes text.now }
-    ensures inside { result ≤ length text.now }
-{
-    text.iter().rev().take_while(|byte| **byte != b'\n').count()
-}
-
-fn text_before(text: &[u8], position: usize) -> &[u8]
-    ensures { result.now ≡ take position text.now }
-{
-    if position <= text.len() {
-        &text[..position]
-    } else {
-        text
-    }
-}
-
-// The position of the byte in this column of this line, both from 1.
-pub(crate) fn position_of(text: &[u8], line: usize, column: usize) -> usize {
+/// The position of the byte in this column of this line, both from 1.
+///
+/// Allocates nothing.
+pub fn position_of(text: &[u8], line: usize, column: usize) -> usize {
     let mut number: usize = 1;
     for (at, byte) in text.iter().enumerate() {
         if number == line {
@@ -469,28 +443,4 @@ pub(crate) fn position_of(text: &[u8], line: usize, column: usize) -> usize {
         }
     }
     text.len()
-}
-
-// That the document with this name is not read for this reason, with the line and the column of the position.
-pub(crate) fn reject_document(
-    alloc: Global,
-    name: &[u8],
-    text: &[u8],
-    position: usize,
-    reason: &str,
-) -> Result<DocumentReading, AllocError>
-    ensures at { IfOk result (λ x. document_reading_of x ≡ broken_at (record { name = name.now; text = text.now }) position reason.now) }
-    ensures broken { IfOk result (λ x. IsBrokenReading (record { name = name.now; text = text.now }) (document_reading_of x)) }
-{
-    let before = text_before(text, position);
-    let column = count_last_bytes(before);
-    let line = line_at(&text[before.len() - column..]);
-    let line = FileLine {
-        file: Vec::from_slice(alloc, name)?,
-        number: line_after(before) as u64,
-        text: Vec::from_slice(alloc, line)?,
-        comment: Vec::new(alloc),
-    };
-    let reason = String::from_str(alloc, reason)?;
-    Ok(DocumentReading::Broken(Finding::NoRequirement(line, reason, column)))
 }

@@ -1,20 +1,20 @@
 //! The conditions of an entry of Poetry or Pipenv as a marker of PEP 508.
-ghost use Rattle.std.specs.Prelude.{◌≡◌, ◌≤◌, ◌++◌, ◌==◌, ◌&&◌, ℕ, List, IfOk, codes, count_by, length, map, option_copied, string_bytes};
-ghost use Rattle.std.specs.List.{flat_map, list_all, prefix_len, slice_split};
+ghost use Rattle.std.specs.Prelude.{◌≡◌, ◌&&◌, codes, option_copied, ◌≤◌, length, ◌++◌, IfOk, string_bytes, ◌==◌, count_by, map, ℕ, List};
+ghost use Rattle.std.specs.List.{list_all, prefix_len, flat_map, slice_split};
 ghost use Rattle.pep440_version.specs.Changes.ChangeWords.{after};
 ghost use Rattle.pep440_version.specs.Grammar.{starts};
 ghost use Rattle.pep440_version.specs.Reading.{lead, past};
-ghost use Rattle.pyver_requirements.specs.MarkerTerms.{joined_terms};
-ghost use Rattle.pyver_requirements.specs.MarkerTokens.{is_operator_byte};
-ghost use Rattle.pyver_projects.specs.Documents.{condition, entry_marker, has_conditions, variable_comparison, with_variables};
-ghost use Rattle.pyver_projects.specs.PackageRequirements.{both_markers, is_python_pair, is_value_byte, past_blank, platform_comparison, platform_marker, platform_specifier, poetry_list, python_comparison, python_marker, python_variable, quoted_value, specifier_comparison};
-ghost use Rattle.pyver_projects.specs.declared.project.EntryTool.TheVariants as of_entries;
-ghost use Rattle.pyver_projects.specs.ProjectStrings.{is_text_or_none};
 ghost use Rattle.toml.specs.Data.{get};
 ghost use Rattle.toml.specs.View.{view};
+ghost use Rattle.pyver_projects.specs.ProjectStrings.{is_text_or_none};
+ghost use Rattle.pyver_projects.specs.ProjectTables.{has_conditions, condition, entry_marker, variable_comparison, with_variables};
+ghost use Rattle.pyver_projects.specs.RequirementStrings.{is_value_byte, past_blank, quoted_value, specifier_comparison, is_python_pair, python_variable, python_comparison, python_marker, platform_specifier, platform_comparison, platform_marker, both_markers};
+ghost use Rattle.pyver_requirements.specs.MarkerTerms.{joined_terms};
+ghost use Rattle.pyver_requirements.specs.MarkerTokens.{is_operator_byte};
+ghost use Rattle.pyver_projects.specs.declared.project.EntryTool.TheVariants as of_entries;
 
-use crate::package_requirements::{is_name_byte, plain_list, poetry_list};
 use crate::project::EntryTool;
+use crate::requirement_strings::{is_name_byte, plain_list, poetry_list};
 use crate::table::{is_text_or_none, text};
 use std::alloc::{AllocError, Global};
 use toml::Value;

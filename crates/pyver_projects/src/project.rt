@@ -1,67 +1,104 @@
 //! What is read of `pyproject.toml`, or of a Pipfile.
-ghost use Rattle.std.specs.Prelude.{◌≡◌, ◌∷◌, ◌++◌, [], IfOk, codes, Some, length, map, nat_eq, option_map, string_bytes};
-ghost use Rattle.std.specs.List.{flat_map};
+ghost use Rattle.std.specs.Prelude.{◌≡◌, bytes_eq, option_map, option_to_list, IfOk, map, ◌∷◌, ◌++◌, [], codes, Some, string_bytes, length, nat_eq};
+ghost use Rattle.std.specs.List.{list_any, flat_map};
 ghost use Rattle.pep440_pick.specs.Names.{normal};
-ghost use Rattle.pyver_projects.specs.Documents.{array_sources, build_sources, dynamic_source, dynamic_sources, entry_names, extra_sources, field_sources, group_items, group_names, group_sources, groups_table, included_name, invalid_name, item_source, item_sources, name_faults, optional_sources, repeated_name, source_from, string_or, table_fault, table_faults, table_sources, text_sources, unless, written_sources};
-ghost use Rattle.pyver_projects.specs.ProjectViews.{IsNameIndex, indexed_names, section_of, project_string_of};
-ghost use Rattle.pyver_projects.specs.ProjectStrings.{Extra, Group, Include, entries, members_list};
 ghost use Rattle.toml.specs.Data.{Data, as_str};
 ghost use Rattle.toml.specs.View.{table_view, view};
+ghost use Rattle.pyver_projects.specs.ProjectStrings.{Extra, Group, Include, members_list, entries, section_of, project_string_of, IsNameIndex, indexed_names};
+ghost use Rattle.pyver_projects.specs.ProjectTables.{written_name, project_names, invalid_name, unless, string_or, text_sources, source_from, array_sources, repeated_name, name_faults, extra_sources, included_name, item_source, item_sources, group_items, group_sources, entry_names, group_names, groups_table, table_fault, optional_sources, field_sources, table_sources, dynamic_source, dynamic_sources, table_faults, build_sources, written_sources};
 
-use crate::groups::{NameIndex, group_names, table_names};
+use crate::inclusions::{NameIndex, group_names, table_names};
+use crate::requirement_strings::first_of;
 use crate::table::{inside, is_array_or_none, is_table_or_none, items, table, text, top};
 use crate::tool_tables::{push_pipenv, push_tools};
-use pep440_pick::is_name;
-use pyver_findings::{Cause, normalize_name};
+use pep440_pick::{is_name, normalize_name};
+use pyver_requirements::Cause;
 use std::alloc::{AllocError, Global};
 use toml::{Table, Value};
 
-// A tool with tables whose keys are names of packages.
+#[tactic(auto, using(crate::proofs::Walks::or_none))]
+/// Whether the project has this name.
+///
+/// Allocates nothing.
+pub fn is_project_name(project: &Option<Vec<u8>>, name: &[u8]) -> bool
+    ensures { result ≡ list_any (bytes_eq name.now) (option_to_list (option_map (λ n. n.items) project.now)) }
+{
+    match project {
+        Some(project) => name == project.as_slice(),
+        None => false,
+    }
+}
+
+// The name of the project as it is written, by PEP 621 or as Poetry has it.
+fn written_name(document: &Table) -> Option<&str>
+    ensures { option_map (λ t. t.now) result ≡ written_name (table_view document.now) }
+{
+    let poetry = inside(top(document, "tool"), "poetry");
+    let name = inside(top(document, "project"), "name");
+    first_of(text(name), text(inside(poetry, "name")))
+}
+
+/// Its normal form, if it has a name.
+///
+/// Allocates.
+pub fn project_name(alloc: Global, document: &Table) -> Result<Option<Vec<u8>>, AllocError>
+    ensures { IfOk result (λ name. option_to_list (option_map (λ n. n.items) name) ≡ project_names (table_view document.now)) }
+{
+    match written_name(document) {
+        Some(name) => Ok(Some(normalize_name(alloc, name)?)),
+        None => Ok(None),
+    }
+}
+
+/// A tool with tables whose keys are names of packages.
 #[derive(Clone, Copy)]
-pub(crate) enum EntryTool {
+pub enum EntryTool {
     Poetry,
     Pipenv,
 }
 
-// Where a string stands in `pyproject.toml` or a Pipfile. Names are in their normal form.
+/// The part of `pyproject.toml` or a Pipfile that a string stands in. Names are in their normal form.
 #[derive(Drop)]
-pub(crate) enum Section {
-    // In `project.dependencies`.
+pub enum Section {
+    /// In `project.dependencies`.
     Dependencies,
-    // In `project.optional-dependencies`, in the array of this extra.
+    /// In `project.optional-dependencies`, in the array of this extra.
     Extra(Vec<u8>),
-    // In `dependency-groups`, in the array of this group.
+    /// In `dependency-groups`, in the array of this group.
     Group(Vec<u8>),
-    // There, as the name of a group that is included: this group includes that one.
+    /// There, as the name of a group that is included: this group includes that one.
     Include(Vec<u8>, Vec<u8>),
-    // Where it asks the project for these extras of its own, which this extra includes, if one does.
+    /// As a request for these extras of the project itself, which this extra includes, if one does.
     OwnExtras(Option<Vec<u8>>, Vec<Vec<u8>>),
-    // As the name of a value in the table with this path that is invalid for this reason.
+    /// As the name of a value in the table with this path that is invalid for this reason.
     Invalid(Vec<u8>, &'static str),
-    // As what this key of the tool's table with this path asks for.
+    /// As what this key of the tool's table with this path asks for.
     Entry(EntryTool, Vec<u8>, Vec<u8>),
-    // In uv's `constraint-dependencies` or `override-dependencies`.
+    /// In uv's `constraint-dependencies` or `override-dependencies`.
     Constraint,
-    // In an environment of Hatch, in which the project is installed or not, and whose table has this path.
+    /// In an environment of Hatch, in which the project is installed or not, and whose table has this path.
     Environment(bool, Vec<u8>),
-    // As what is not read for this cause.
+    /// As what is not read for this cause.
     Unread(Cause),
-    // In `build-system.requires`.
+    /// In `build-system.requires`.
     Build,
-    // `project.requires-python`.
+    /// `project.requires-python`.
     Python,
-    // `project.version`.
+    /// `project.version`.
     Version,
 }
 
-// A string there that is to be a requirement, a list of specifiers or a version.
+/// A string there that is to be a requirement, a list of specifiers or a version.
 #[derive(Drop)]
-pub(crate) struct ProjectString {
-    pub(crate) section: Section,
-    pub(crate) text: String,
+pub struct ProjectString {
+    pub section: Section,
+    pub text: String,
 }
 
-pub(crate) fn copy_name(name: &Option<Vec<u8>>) -> Result<Option<Vec<u8>>, AllocError>
+/// A copy of the name, if there is one.
+///
+/// Allocates.
+pub fn copy_name(name: &Option<Vec<u8>>) -> Result<Option<Vec<u8>>, AllocError>
     ensures { IfOk result (λ copy. option_map (λ n. n.items) copy ≡ option_map (λ n. n.items) name.now) }
 {
     match name {
@@ -70,7 +107,10 @@ pub(crate) fn copy_name(name: &Option<Vec<u8>>) -> Result<Option<Vec<u8>>, Alloc
     }
 }
 
-pub(crate) fn copy_names(names: &Vec<Vec<u8>>) -> Result<Vec<Vec<u8>>, AllocError>
+/// A copy of the names.
+///
+/// Allocates.
+pub fn copy_names(names: &Vec<Vec<u8>>) -> Result<Vec<Vec<u8>>, AllocError>
     ensures { IfOk result (λ copy. map (λ n. n.items) copy.items ≡ map (λ n. n.items) names.now.items) }
 {
     Ok(names.clone()?)

@@ -1,24 +1,27 @@
 //! Values in a table of a TOML document.
-ghost use Rattle.std.specs.Prelude.{◌≡◌, map, option_and_then, option_map};
-ghost use Rattle.std.specs.Prelude.{◌++◌, IfOk, option_to_list, string_bytes};
-ghost use Rattle.pyver_projects.specs.ProjectStrings.{inside, is_array_or_none, is_table_or_none, is_text_or_none, listed, text_in, texts_listed};
-ghost use Rattle.toml.specs.Data.{as_array, as_str, as_table, get_member};
-ghost use Rattle.toml.specs.View.{array_view, table_view, view};
+ghost use Rattle.std.specs.Prelude.{◌≡◌, option_map, option_and_then, map, ◌++◌, IfOk, option_to_list, string_bytes};
+ghost use Rattle.toml.specs.Data.{get_member, as_array, as_table, as_str};
+ghost use Rattle.toml.specs.View.{table_view, view, array_view};
+ghost use Rattle.pyver_projects.specs.ProjectStrings.{inside, listed, text_in, texts_listed, is_array_or_none, is_table_or_none, is_text_or_none};
 
 use std::alloc::{AllocError, Global};
 use toml::value::Array;
 use toml::{Table, Value};
 
-// The value at a key of the document.
+/// The value at a key of the document.
+///
+/// Allocates nothing.
 #[tactic(auto, using(toml::proofs::Views::table_get))]
-pub(crate) fn top<'a>(document: &'a Table, key: &str) -> Option<&'a Value>
+pub fn top<'a>(document: &'a Table, key: &str) -> Option<&'a Value>
     ensures { option_map (λ v. view v.now) result ≡ get_member key.now (table_view document.now) }
 {
     document.get(key)
 }
 
-// The value at a key, if there is a table that has it.
-pub(crate) fn inside<'a>(value: Option<&'a Value>, key: &str) -> Option<&'a Value>
+/// The value at a key, if there is a table that has it.
+///
+/// Allocates nothing.
+pub fn inside<'a>(value: Option<&'a Value>, key: &str) -> Option<&'a Value>
     ensures { option_map (λ v. view v.now) result ≡ inside key.now (option_map (λ v. view v.now) value.entry) }
 {
     match value {
@@ -36,9 +39,11 @@ fn array(value: Option<&Value>) -> Option<&Array>
     }
 }
 
-// The items, if there is an array.
+/// The items, if there is an array.
+///
+/// Allocates nothing.
 #[tactic(auto, using(crate::proofs::Walks::items_list_of))]
-pub(crate) fn items(value: Option<&Value>) -> &[Value]
+pub fn items(value: Option<&Value>) -> &[Value]
     ensures { map view result.now ≡ listed (option_map (λ v. view v.now) value.entry) }
 {
     match array(value) {
@@ -47,8 +52,10 @@ pub(crate) fn items(value: Option<&Value>) -> &[Value]
     }
 }
 
-// The table, if there is one.
-pub(crate) fn table(value: Option<&Value>) -> Option<&Table>
+/// The table, if there is one.
+///
+/// Allocates nothing.
+pub fn table(value: Option<&Value>) -> Option<&Table>
     ensures { option_map (λ t. table_view t.now) result ≡ option_and_then as_table (option_map (λ v. view v.now) value.entry) }
 {
     match value {
@@ -57,8 +64,10 @@ pub(crate) fn table(value: Option<&Value>) -> Option<&Table>
     }
 }
 
-// The string, if there is one.
-pub(crate) fn text(value: Option<&Value>) -> Option<&str>
+/// The string, if there is one.
+///
+/// Allocates nothing.
+pub fn text(value: Option<&Value>) -> Option<&str>
     ensures { option_map (λ t. t.now) result ≡ text_in (option_map (λ v. view v.now) value.entry) }
 {
     match value {
@@ -77,11 +86,10 @@ fn push_string(alloc: Global, strings: &mut Vec<String>, item: &Value) -> Result
     Ok(())
 }
 
-// The strings in the array, if there is one.
-pub(crate) fn listed_strings(
-    alloc: Global,
-    value: Option<&Value>,
-) -> Result<Vec<String>, AllocError>
+/// The strings in the array, if there is one.
+///
+/// Allocates.
+pub fn listed_strings(alloc: Global, value: Option<&Value>) -> Result<Vec<String>, AllocError>
     ensures { IfOk result (λ strings. map string_bytes strings.items ≡ texts_listed (option_map (λ v. view v.now) value.entry)) }
 {
     let mut strings = Vec::new(alloc);
@@ -91,8 +99,10 @@ pub(crate) fn listed_strings(
     Ok(strings)
 }
 
-// The value is an array, if there is one.
-pub(crate) fn is_array_or_none(value: Option<&Value>) -> bool
+/// The value is an array, if there is one.
+///
+/// Allocates nothing.
+pub fn is_array_or_none(value: Option<&Value>) -> bool
     ensures { result ≡ is_array_or_none (option_map (λ v. view v.now) value.entry) }
 {
     match value {
@@ -101,8 +111,10 @@ pub(crate) fn is_array_or_none(value: Option<&Value>) -> bool
     }
 }
 
-// The value is a table, if there is one.
-pub(crate) fn is_table_or_none(value: Option<&Value>) -> bool
+/// The value is a table, if there is one.
+///
+/// Allocates nothing.
+pub fn is_table_or_none(value: Option<&Value>) -> bool
     ensures { result ≡ is_table_or_none (option_map (λ v. view v.now) value.entry) }
 {
     match value {
@@ -111,8 +123,10 @@ pub(crate) fn is_table_or_none(value: Option<&Value>) -> bool
     }
 }
 
-// The value is a string, if there is one.
-pub(crate) fn is_text_or_none(value: Option<&Value>) -> bool
+/// The value is a string, if there is one.
+///
+/// Allocates nothing.
+pub fn is_text_or_none(value: Option<&Value>) -> bool
     ensures { result ≡ is_text_or_none (option_map (λ v. view v.now) value.entry) }
 {
     match value {

@@ -1,31 +1,30 @@
 //! What tables of tools in `pyproject.toml` ask for, or a Pipfile, and what they override.
-ghost use Rattle.std.specs.Prelude.{◌≡◌, ◌++◌, [], IfOk, Some, codes, map, option_and_then, option_map, string_bytes};
+ghost use Rattle.std.specs.Prelude.{◌≡◌, option_map, IfOk, string_bytes, ◌++◌, map, Some, codes, option_and_then};
 ghost use Rattle.std.specs.List.{flat_map, list_any};
-ghost use Rattle.pep440_rs.specs.Blanks.{opens};
 ghost use Rattle.pep440_pick.specs.Names.{normal};
+ghost use Rattle.pep440_rs.specs.Blanks.{opens};
 ghost use Rattle.pep440_version.specs.Grammar.{starts};
+ghost use Rattle.toml.specs.Data.{as_bool, Data, as_str};
+ghost use Rattle.toml.specs.View.{view, table_view};
+ghost use Rattle.pyver_projects.specs.ProjectStrings.{Entry, members_list, listed, key_path, Group, inside, entries, section_of, project_string_of};
+ghost use Rattle.pyver_projects.specs.ProjectTables.{table_list, entry_list, pipenv_list, entry_specifiers, is_package_name, unread, listed_source, entry_source, each_source, is_entry, sources_or_fault, entry_sources, tool_table, is_editable, group_path, tool_group, array_sources, tool_groups, poetry_sources, dev_sources, unread_table, unread_tables, unread_fields, added_sources, constraint_sources, other_sources, tool_sources, is_false, dev_packages, pipenv_faults, pipenv_tables, pipenv_sources, leading_name, entry_names, overridden_names};
+ghost use Rattle.pyver_projects.specs.RequirementStrings.{marked_text};
 ghost use Rattle.pyver_requirements.specs.MarkerTokens.{is_operator_byte};
-ghost use Rattle.pyver_projects.specs.Documents.{added_sources, array_sources, constraint_sources, dev_packages, entry_list, entry_names, entry_specifiers, each_source, entry_source, entry_sources, group_path, is_entry, is_package_name, is_editable, leading_name, listed_source, other_sources, overridden_names, pipenv_faults, pipenv_list, pipenv_sources, pipenv_tables, poetry_sources, sources_or_fault, table_list, tool_group, tool_groups, tool_sources, tool_table, unread, unread_fields, unread_table, unread_tables, dev_sources};
-ghost use Rattle.pyver_projects.specs.PackageRequirements.{marked_text, requirement_text};
-ghost use Rattle.pyver_projects.specs.ProjectStrings.{Entry, Group, entries, inside, key_path, listed, members_list};
-ghost use Rattle.pyver_projects.specs.KnownEnvironments.{is_false};
-ghost use Rattle.pyver_projects.specs.ProjectViews.{project_string_of, section_of};
 ghost use Rattle.pyver_projects.specs.declared.tool_tables.GroupTool.TheVariants as of_tool;
-ghost use Rattle.toml.specs.Data.{Data, as_bool, as_str};
-ghost use Rattle.toml.specs.View.{table_view, view};
 
 use crate::environments::push_environments;
-use crate::groups::table_names;
-use crate::package_extras::name_with_extras;
-use crate::package_requirements::{plain_list, poetry_list, requirement_text, split_name};
+use crate::inclusions::table_names;
 use crate::place::{after_blanks, key_path};
 use crate::poetry_marker::{entry_marker, has_conditions, is_operator_byte};
 use crate::project::{
     EntryTool, ProjectString, Section, push_array, push_invalid, push_string, push_table_fault,
 };
+use crate::requirement_strings::{
+    name_with_extras, plain_list, poetry_list, requirement_text, split_name,
+};
 use crate::table::{inside, items, listed_strings, table, text, top};
-use pep440_pick::is_name;
-use pyver_findings::{Cause, normalize_name};
+use pep440_pick::{is_name, normalize_name};
+use pyver_requirements::Cause;
 use std::alloc::{AllocError, Global};
 use toml::{Table, Value};
 
@@ -240,7 +239,7 @@ fn push_entries_or_fault(
 }
 
 // Adds what the entry asks for.
-#[tactic(auto, unfolding(crate::specs::Documents::entry_sources))]
+#[tactic(auto, unfolding(crate::specs::ProjectTables::entry_sources))]
 fn push_named(
     alloc: Global,
     sources: &mut Vec<ProjectString>,
@@ -292,7 +291,7 @@ fn push_tool_table(
 
 // The tool that has a table of groups.
 #[derive(Clone, Copy)]
-pub(crate) enum GroupTool {
+enum GroupTool {
     Poetry,
     Pdm,
 }
@@ -304,7 +303,7 @@ fn any_editable(found: &[Value]) -> bool
 }
 
 // An item is an editable of PDM.
-#[tactic(auto, using(pyver_findings::proofs::Steps::any_viewed))]
+#[tactic(auto, using(pyver_requirements::proofs::Grouped::any_viewed))]
 fn has_editable(group: &Value) -> bool
     ensures { result ≡ list_any is_editable (listed (Some (view group.now))) }
 {
@@ -710,9 +709,11 @@ pub(crate) fn names_in(alloc: Global, value: Option<&Value>) -> Result<Vec<Vec<u
     }
 }
 
-// The names whose versions the project sets itself, for uv or for PDM.
+/// The names whose versions the project sets itself, for uv or for PDM.
+///
+/// Allocates.
 #[tactic(auto, using(crate::proofs::Walks::joined_views))]
-pub(crate) fn overridden_names(alloc: Global, document: &Table) -> Result<Vec<Vec<u8>>, AllocError>
+pub fn overridden_names(alloc: Global, document: &Table) -> Result<Vec<Vec<u8>>, AllocError>
     ensures { IfOk result (λ names. map (λ n. n.items) names.items ≡ overridden_names (table_view document.now)) }
 {
     let tool = top(document, "tool");

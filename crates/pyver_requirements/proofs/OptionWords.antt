@@ -5,9 +5,7 @@ use Rattle.std.specs.Char.{is_ascii_whitespace}
 use Rattle.std.specs.List.{prefix_len}
 use Rattle.pep440_version.specs.Grammar.{starts}
 use Rattle.pep440_version.specs.Reading.{past}
-use Rattle.pyver_requirements.specs.OptionFaults.{FaultPosition, OptionWord, WordStep, behind_step, end_fault, is_among, option_name, option_words, step_fault, either_step, word_step, words_fault}
-use Rattle.pyver_requirements.specs.OptionNames.{names_option}
-use Rattle.pyver_requirements.specs.OptionValues.{next_state, shell_word}
+use Rattle.pyver_requirements.specs.Options.{FaultPosition, OptionWord, WordStep, behind_step, end_fault, is_among, option_name, option_words, step_fault, either_step, word_step, words_fault, names_option, next_state, shell_word}
 use Rattle.pyver_requirements.specs.declared.option_value.ShellState.TheVariants.{Plain}
 
 -- the words behind so many bytes

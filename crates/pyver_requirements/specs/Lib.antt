@@ -1,15 +1,10 @@
 pub mod LogicalLines
 pub mod LineParts
-pub mod ConflictMarks
-pub mod OptionNames
-pub mod OptionValues
-pub mod OptionFaults
+pub mod Options
 pub mod LineKinds
-pub mod LineViews
 pub mod MarkerTokens
-pub mod MarkerStepViews
 pub mod MarkerSteps
 pub mod MarkerTerms
-pub mod MarkerReading
 pub mod MarkerViews
+pub mod MarkerReading
 pub mod MarkerGrammar

@@ -1,18 +1,39 @@
--- What a logical line of a requirements file is (pip, "Requirements File Format").
-use Rattle.std.specs.Prelude.{ℕ, ◌-◌, ◌==◌, ◌&&◌, ◌||◌, List, [], ◌∷◌, Bool, false, Option, Some, None, codes, drop, length, nat_eq, not, if◌then◌else◌}
-use Rattle.std.specs.Char.{eq_ignore_ascii_case, is_ascii_digit, is_ascii_uppercase, is_ascii_whitespace}
-use Rattle.std.specs.List.{ends_with, list_any, starts_with}
+-- What a logical line of a requirements file is (pip, "Requirements File Format"), or a mark of a merge conflict, which version control leaves there; and
+-- lines and their parts, apart from their address in memory.
+use Rattle.std.specs.Prelude.{ℕ, ◌==◌, ◌&&◌, ◌||◌, List, [], ◌∷◌, Bool, true, false, ◌-◌, Option, Some, None, codes, drop, length, nat_eq, not, if◌then◌else◌, ◌++◌, map, option_map}
+use Rattle.std.specs.Char.{is_ascii_whitespace, eq_ignore_ascii_case, is_ascii_digit, is_ascii_uppercase}
+use Rattle.std.specs.List.{prefix_len, ends_with, list_any, starts_with}
+use Rattle.pep440_version.specs.Reading.{past, lead}
 use Rattle.std.specs.Option.{option_map_or}
 use Rattle.pep440_rs.specs.Blanks.{opens, trim_blanks}
 use Rattle.pep440_version.specs.Grammar.{starts}
-use Rattle.pep440_version.specs.Reading.{lead, past}
-use Rattle.pyver_requirements.specs.ConflictMarks.{is_conflict_mark}
-use Rattle.pyver_requirements.specs.LogicalLines.{is_utf16}
-use Rattle.pyver_requirements.specs.OptionFaults.{FaultPosition, options_fault, options_in}
-use Rattle.pyver_requirements.specs.OptionNames.{behind_long_name, long_name, names_option}
-use Rattle.pyver_requirements.specs.OptionValues.{first_value, long_value}
+use Rattle.pyver_requirements.specs.LogicalLines.{is_utf16, Line, filled, joined_from, prefixed}
+use Rattle.pyver_requirements.specs.Options.{FaultPosition, options_fault, options_in, behind_long_name, long_name, names_option, first_value, long_value, Awaits, Ends, Taken, WordStep, Wrong}
 use Rattle.pyver_requirements.specs.declared.line_fault.LineFault.{LineFault}
 use Rattle.pyver_requirements.specs.declared.line_fault.LineFault.TheVariants.{ConflictMark, Utf16}
+use Rattle.pyver_requirements.specs.LineParts.{LineParts}
+use Rattle.pyver_requirements.specs.declared.line_kind.LineKind.{LineKind as LineKindValue}
+use Rattle.pyver_requirements.specs.declared.line_parts.LineParts.{LineParts as LinePartsValue}
+use Rattle.pyver_requirements.specs.declared.logical_line.LogicalLine.{LogicalLine}
+use Rattle.pyver_requirements.specs.declared.logical_line.LineJoiner.{LineJoiner}
+use Rattle.pyver_requirements.specs.declared.option_fault.FaultPosition.{FaultPosition as FaultPositionValue}
+use Rattle.pyver_requirements.specs.declared.option_fault.WordStep.{WordStep as WordStepValue}
+use Rattle.pyver_requirements.specs.declared.line_kind.LineKind.TheVariants as kind
+use Rattle.pyver_requirements.specs.declared.option_fault.WordStep.TheVariants as step
+
+-- `<`, `=`, `>` and `|`
+abbrev pub is_mark_byte : ℕ → Bool
+is_mark_byte b = (b == 60) || ((b == 61) || ((b == 62) || (b == 124)))
+
+-- the string is empty or begins with a blank
+abbrev pub ends_word : List ℕ → Bool
+ends_word [] = true
+ends_word (b ∷ rest) = is_ascii_whitespace b
+
+-- the line begins with seven times one of these bytes, as a word
+abbrev pub is_conflict_mark : List ℕ → Bool
+is_conflict_mark [] = false
+is_conflict_mark (b ∷ rest) = is_mark_byte b && ((prefix_len (λ c. c == b) (b ∷ rest) == 7) && ends_word (past (λ c. c == b) (b ∷ rest)))
 
 -- another file of requirements, and one of constraints, each with its path; neither a requirement nor an option, with the column; an editable;
 -- another option of pip; a line with a variable; a URL, a path or an archive; a requirement
@@ -109,3 +130,32 @@ line_kind text =
     if is_conflict_mark text then Invalid ConflictMark 0
     else if is_utf16 text then Invalid Utf16 0
     else unless_fault text (options_fault (options_in text)) (right_kind text)
+
+abbrev pub logical_line_of : LogicalLine → Line
+logical_line_of l = record { number = l.number; text = l.text.items; comment = l.comment.items }
+
+-- the lines so far, and those that come of the one that has begun and of these physical lines
+abbrev pub lines_with : LineJoiner → List (List ℕ) → List Line
+lines_with joiner rest = map logical_line_of joiner.lines.items ++ filled (prefixed joiner.first joiner.text.items (joined_from joiner.next rest))
+
+abbrev pub line_kind_of : LineKindValue → LineKind
+line_kind_of (kind.RequirementsFile path) = RequirementsFile path.now
+line_kind_of (kind.ConstraintsFile path) = ConstraintsFile path.now
+line_kind_of (kind.Invalid fault column) = Invalid fault column
+line_kind_of kind.Editable = Editable
+line_kind_of kind.PipOption = PipOption
+line_kind_of kind.Variable = Variable
+line_kind_of kind.Location = Location
+line_kind_of kind.Requirement = Requirement
+
+abbrev pub line_parts_of : LinePartsValue → LineParts
+line_parts_of p = record { text = p.text.now; requirement = p.requirement.now; url = option_map (λ x. x.now) p.url; marker = option_map (λ x. x.now) p.marker }
+
+abbrev pub fault_position_of : FaultPositionValue → FaultPosition
+fault_position_of m = record { fault = m.fault; left = m.left }
+
+abbrev pub word_step_of : WordStepValue → WordStep
+word_step_of (step.Wrong fault) = Wrong fault
+word_step_of (step.Awaits name) = Awaits name.now
+word_step_of step.Taken = Taken
+word_step_of step.Ends = Ends

@@ -7,7 +7,7 @@ use Rattle.pep440_rs.specs.Blanks.{opens}
 use Rattle.pep440_version.specs.Grammar.{starts}
 use Rattle.pep440_version.specs.Reading.{lead, past}
 use Rattle.pyver_requirements.specs.LineParts.{before_byte, behind_byte, is_blank_byte, skip_blanks}
-use Rattle.pyver_requirements.specs.OptionValues.{is_quote}
+use Rattle.pyver_requirements.specs.Options.{is_quote}
 use Rattle.pyver_requirements.specs.declared.marker_fault.MarkerFault.{MarkerFault}
 use Rattle.pyver_requirements.specs.declared.marker_fault.MarkerFault.TheVariants as fault
 use Rattle.pyver_requirements.specs.declared.marker_operator.MarkerOperator.{MarkerOperator}

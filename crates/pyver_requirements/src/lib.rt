@@ -5,6 +5,7 @@
 //! `marker_terms`; and `laws`.
 #![tactic(auto)]
 
+mod cause;
 mod comment;
 pub mod laws;
 mod line_fault;
@@ -22,6 +23,7 @@ mod option_name;
 mod option_value;
 mod physical_line;
 
+pub use cause::Cause;
 pub use line_fault::LineFault;
 pub use line_kind::{LineKind, classify, has_variable};
 pub use line_parts::{LineParts, split_pip_line, split_requirement};

@@ -1,7 +1,7 @@
 //! Why a line is neither a requirement nor an option.
 ghost use Rattle.std.specs.Prelude.{◌≡◌, ◌≤◌, ◌==◌, length};
 ghost use Rattle.std.specs.List.{prefix_len};
-ghost use Rattle.pyver_requirements.specs.ConflictMarks.{ends_word, is_conflict_mark, is_mark_byte};
+ghost use Rattle.pyver_requirements.specs.LineKinds.{ends_word, is_conflict_mark, is_mark_byte};
 
 /// Why a line is neither a requirement nor an option.
 #[derive(Clone, Copy, Debug, PartialEq, Eq)]

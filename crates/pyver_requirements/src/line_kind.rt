@@ -3,9 +3,8 @@ ghost use Rattle.std.specs.Prelude.{◌≡◌, ◌≤◌, ◌==◌, ◌||◌, Is
 ghost use Rattle.std.specs.Char.{eq_ignore_ascii_case, is_ascii_whitespace};
 ghost use Rattle.std.specs.List.{ends_with, list_any, prefix_len};
 ghost use Rattle.pep440_rs.specs.Blanks.{opens, trim_blanks};
-ghost use Rattle.pyver_requirements.specs.LineKinds.{closes_variable, ends_as, first_word, has_variable, is_archive, is_location, is_variable_byte, line_kind, long_option_value, opens_variable, option_kind, option_value, right_kind, short_endings, tar_endings, unless_fault};
-ghost use Rattle.pyver_requirements.specs.LineViews.{line_kind_of, fault_position_of};
-ghost use Rattle.pyver_requirements.specs.OptionFaults.{options_fault, options_in};
+ghost use Rattle.pyver_requirements.specs.LineKinds.{closes_variable, ends_as, first_word, has_variable, is_archive, is_location, is_variable_byte, line_kind, long_option_value, opens_variable, option_kind, option_value, right_kind, short_endings, tar_endings, unless_fault, line_kind_of, fault_position_of};
+ghost use Rattle.pyver_requirements.specs.Options.{options_fault, options_in};
 
 use crate::comment::trim_blanks;
 use crate::line_fault::{LineFault, is_conflict_mark};

@@ -2,7 +2,7 @@
 ghost use Rattle.std.specs.Prelude.{◌≡◌, ◌≤◌, ◌==◌, length, not, option_map};
 ghost use Rattle.std.specs.List.{prefix_len};
 ghost use Rattle.pyver_requirements.specs.LineParts.{before_byte, before_options, behind_byte, is_blank_byte, is_list_byte, is_url_byte, line_parts, parts_before, parts_behind, pip_parts, rest_of, semicolon_parts, skip_blanks, url_parts};
-ghost use Rattle.pyver_requirements.specs.LineViews.{line_parts_of};
+ghost use Rattle.pyver_requirements.specs.LineKinds.{line_parts_of};
 
 use crate::line_kind::opens_with;
 

@@ -1,6 +1,6 @@
 //! The logical lines of a requirements file.
 ghost use Rattle.std.specs.Prelude.{◌≡◌, ◌∷◌, ◌++◌, ◌+◌, ◌≤◌, ◌^◌, [], List, ℕ, IfOk, map, take};
-ghost use Rattle.pyver_requirements.specs.LineViews.{logical_line_of, lines_with};
+ghost use Rattle.pyver_requirements.specs.LineKinds.{logical_line_of, lines_with};
 ghost use Rattle.pyver_requirements.specs.LogicalLines.{filled, joined_from, joined_lines, logical_lines};
 
 use crate::comment::split_comment;

@@ -1,8 +1,7 @@
 //! Environment markers in their normal form, as in PEP 508.
 ghost use Rattle.std.specs.Prelude.{◌≡◌, [], IfErr, IfOk, map};
 ghost use Rattle.pyver_requirements.specs.MarkerReading.{earlier_terms, last_terms, marker, terms_after_step, terms_after_steps};
-ghost use Rattle.pyver_requirements.specs.MarkerStepViews.{step_of};
-ghost use Rattle.pyver_requirements.specs.MarkerViews.{IsMarkerFault, terms_of};
+ghost use Rattle.pyver_requirements.specs.MarkerViews.{step_of, IsMarkerFault, terms_of};
 
 use crate::marker_fault::MarkerError;
 use crate::marker_steps::{Step, parse_steps};

@@ -1,8 +1,7 @@
 //! Environment markers as steps.
 ghost use Rattle.std.specs.Prelude.{◌≡◌, ◌-◌, ◌++◌, ◌∷◌, [], IfErr, IfOk, length, map};
 ghost use Rattle.pyver_requirements.specs.MarkerSteps.{behind_operand, close_group, empty_group, end_steps, join_alternatives, join_chain, marker_steps, no_groups, open_group, take_connective, take_operand, take_token};
-ghost use Rattle.pyver_requirements.specs.MarkerStepViews.{group_of, open_groups_of, step_of};
-ghost use Rattle.pyver_requirements.specs.MarkerViews.{IsMarkerFault, side_of, token_of};
+ghost use Rattle.pyver_requirements.specs.MarkerViews.{group_of, open_groups_of, step_of, IsMarkerFault, side_of, token_of};
 ghost use Rattle.pyver_requirements.specs.MarkerTokens.{Compares, Or};
 
 use crate::line_parts::is_blank_byte;

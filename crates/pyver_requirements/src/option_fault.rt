@@ -1,9 +1,8 @@
 //! Why pip does not take the options of a line, and whether it has one.
 ghost use Rattle.std.specs.Prelude.{◌≡◌, ◌&&◌, ◌||◌, None, bytes_eq, codes, not, option_map};
 ghost use Rattle.std.specs.List.{list_any};
-ghost use Rattle.pyver_requirements.specs.OptionFaults.{end_fault, flag_step, given_step, has_option, has_plain_options, is_shell_byte, is_strong_hash, known_step, named_step, option_name, option_step, option_words, options_fault, options_in, short_value, taken_if, value_step, either_step, word_step, word_value, words_fault};
-ghost use Rattle.pyver_requirements.specs.LineViews.{fault_position_of, word_step_of};
-ghost use Rattle.pyver_requirements.specs.OptionNames.{name_fault, names_option};
+ghost use Rattle.pyver_requirements.specs.Options.{end_fault, flag_step, given_step, has_option, has_plain_options, is_shell_byte, is_strong_hash, known_step, named_step, option_name, option_step, option_words, options_fault, options_in, short_value, taken_if, value_step, either_step, word_step, word_value, words_fault, name_fault, names_option};
+ghost use Rattle.pyver_requirements.specs.LineKinds.{fault_position_of, word_step_of};
 
 use crate::line_fault::LineFault;
 use crate::line_kind::opens_with;

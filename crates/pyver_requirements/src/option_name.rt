@@ -1,8 +1,7 @@
 //! Names of options; `optparse` lets long ones be abbreviated.
 ghost use Rattle.std.specs.Prelude.{◌≡◌, ◌≤◌, ◌==◌, bytes_eq, length, nat_eq};
 ghost use Rattle.std.specs.List.{count_by, list_any, prefix_len, starts_with};
-ghost use Rattle.pyver_requirements.specs.OptionFaults.{takes_path};
-ghost use Rattle.pyver_requirements.specs.OptionNames.{count_options, flags, is_long_option, is_option_byte, is_short_option, long_fault, name_fault, name_options, names_one_of, names_option, path_options, short_fault};
+ghost use Rattle.pyver_requirements.specs.Options.{takes_path, count_options, flags, is_long_option, is_option_byte, is_short_option, long_fault, name_fault, name_options, names_one_of, names_option, path_options, short_fault};
 
 use crate::line_fault::LineFault;
 
@@ -63,7 +62,7 @@ fn count_options(name: &[u8]) -> usize
 }
 
 // The option has this name, or begins so while no other does.
-#[tactic(auto, unfolding(crate::specs::OptionNames::names_option))]
+#[tactic(auto, unfolding(crate::specs::Options::names_option))]
 pub(crate) fn names_option(option: &[u8], name: &[u8]) -> bool
     ensures { result ≡ names_option option.now name.now }
 {
@@ -156,7 +155,7 @@ fn short_fault(name: &[u8]) -> Option<LineFault>
 }
 
 // Why this is not the name of an option.
-#[tactic(auto, unfolding(crate::specs::OptionNames::name_fault))]
+#[tactic(auto, unfolding(crate::specs::Options::name_fault))]
 pub(crate) fn name_fault(name: &[u8]) -> Option<LineFault>
     ensures { result ≡ name_fault name.now }
 {

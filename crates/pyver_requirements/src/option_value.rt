@@ -1,6 +1,6 @@
 //! Words and values of options, as a shell splits them.
 ghost use Rattle.std.specs.Prelude.{◌≡◌, ◌≤◌, ◌==◌, drop, length, option_map};
-ghost use Rattle.pyver_requirements.specs.OptionValues.{closes, first_value, from_long_value, from_value, is_plain, is_quote, long_value, next_state, shell_word, value_column, without_quotes};
+ghost use Rattle.pyver_requirements.specs.Options.{closes, first_value, from_long_value, from_value, is_plain, is_quote, long_value, next_state, shell_word, value_column, without_quotes};
 
 use crate::comment::trim_blanks;
 use crate::line_parts::split_at_first;

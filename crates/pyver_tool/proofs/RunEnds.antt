@@ -37,7 +37,7 @@ use Rattle.pyver_commands.specs.declared.sources.open_failure.OpenFailure.{OpenF
 use Rattle.pyver_tool.specs.declared.requirement_files.RequirementFiles.{RequirementFiles}
 use Rattle.pyver_findings.specs.FileLines.{File}
 use Rattle.pyver_findings.specs.NamedFiles.{NamedFile, named_files}
-use Rattle.pyver_projects.specs.Meanings.{Document}
+use Rattle.pyver_documents.specs.Meanings.{Document}
 use Rattle.pyver_findings.specs.Views.{named_file_of}
 use Rattle.pyver_findings.specs.ReportTexts.{summary_text}
 use Rattle.pyver_findings.specs.Reports.{Report, joined_report, without_ignored}
@@ -65,8 +65,8 @@ use Rattle.pyver_commands.specs.Matches.{Matches, MatchesBy, MatchesWord, Matche
 use Rattle.pyver_commands.specs.NewestOutcomes.{FindsNewest, FindsNewestBy, FindsNewestLine, newest_outcome, newest_rule, taken}
 use Rattle.pyver_findings.specs.FindingLaws.{IsUndecided, without_environments}
 use Rattle.pyver_findings.proofs.Complete.{ignored_alike, joined_alike, reports_once}
-use Rattle.pyver_projects.proofs.ExportsFound.{export_reports_once}
-use Rattle.pyver_projects.proofs.Once.{document_reports_once}
+use Rattle.pyver_documents.proofs.ExportsFound.{export_reports_once}
+use Rattle.pyver_documents.proofs.Once.{document_reports_once}
 use Rattle.pyver_commands.specs.Outcomes.{in_turn}
 use Rattle.pyver_commands.specs.Readings.{Reading, Reads, Denotes, Fails}
 use Rattle.pyver_commands.specs.Shows.{Shows, ShowsWord, show_outcome}

@@ -14,7 +14,7 @@ use Rattle.pyver_findings.specs.FileLines.{Finding}
 use Rattle.pyver_findings.specs.NamedFiles.{Position}
 use Rattle.pyver_findings.specs.ReportTexts.{summary_text}
 use Rattle.pyver_findings.specs.Reports.{IsReport, Report, empty_report, joined_report, spans_files, without_ignored}
-use Rattle.pyver_projects.specs.Comparing.{IsDocumentsReport, IsExportsReport}
+use Rattle.pyver_documents.specs.Comparing.{IsDocumentsReport, IsExportsReport}
 
 -- ---- what is found
 

@@ -11,14 +11,14 @@ use Rattle.pyver_commands.specs.declared.sources.stream.RunFailure.TheVariants a
 use Rattle.pyver_findings.specs.Exports.{is_export}
 use Rattle.pyver_findings.specs.FileLines.{File}
 use Rattle.pyver_findings.specs.NamedFiles.{NamedFile, named_files}
-use Rattle.pyver_projects.specs.Comparing.{is_project}
-use Rattle.pyver_projects.specs.Meanings.{Document}
+use Rattle.pyver_documents.specs.Comparing.{is_project}
+use Rattle.pyver_documents.specs.Meanings.{Document}
 use Rattle.pyver_tool.specs.SplitWords.{kind_by_name}
 use Rattle.pyver_tool.specs.declared.lock_search.LockSearch.{LockSearch}
 use Rattle.pyver_tool.specs.declared.requirement_files.RequirementFiles.{RequirementFiles}
 use Rattle.pyver_tool.specs.declared.requirement_files.UnopenedFile.{UnopenedFile as UnopenedFileValue}
 use Rattle.pyver_findings.specs.Views.{file_of, named_file_of}
-use Rattle.pyver_projects.specs.ProjectViews.{document_of}
+use Rattle.pyver_documents.specs.DocumentViews.{document_of}
 use Rattle.pyver_tool.specs.declared.options.FileKind.TheVariants as file_kind
 use Rattle.pyver_commands.specs.declared.sources.open_failure.OpenFailure.TheVariants as failure
 

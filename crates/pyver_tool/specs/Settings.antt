@@ -12,8 +12,7 @@ use Rattle.pyver_commands.specs.declared.specifiers.Prereleases.TheVariants as p
 use Rattle.pyver_tool.specs.declared.settings.Settings.{Settings}
 use Rattle.pyver_commands.specs.declared.show.ShowFormat.TheVariants as format
 use Rattle.pyver_tool.specs.declared.settings.OutputForm.{OutputForm}
-use Rattle.pyver_findings.specs.ReportTexts.{report_commands, report_text}
-use Rattle.pyver_findings.specs.ReportObjects.{report_object}
+use Rattle.pyver_findings.specs.ReportTexts.{report_commands, report_text, report_object}
 use Rattle.pyver_findings.specs.Reports.{Report}
 use Rattle.pyver_findings.specs.SarifLogs.{report_log}
 

@@ -3,10 +3,10 @@
 use Rattle.std.specs.Prelude.{Bool, List, None, Option, Some, bytes_eq, codes, false, if◌then◌else◌, map, not, option_map, true, ℕ, ◌&&◌, [], drop, is_some, length, nat_eq, nat_le, nat_lt, ◌++◌, ◌==◌, ◌||◌, ◌∷◌}
 use Rattle.pyver_tool.specs.declared.help.Topic.{Topic}
 use Rattle.pyver_tool.specs.declared.options.TheConstants.{BUMP_OPTIONS, CHECK_OPTIONS, COMPARE_OPTIONS, FILTER_OPTIONS, MARKER_OPTIONS, MATCH_OPTIONS, NEWEST_OPTIONS, RANGE_OPTIONS, SHOW_OPTIONS, SORT_OPTIONS}
-use Rattle.pyver_projects.specs.Documents.{is_document_path, kind_of_path, kind_of_word}
-use Rattle.pyver_projects.specs.declared.document_kind.DocumentKind.{DocumentKind}
-use Rattle.pyver_projects.specs.declared.document_kind.DocumentKind.TheVariants.{Lock}
-use Rattle.pyver_projects.specs.declared.document_kind.LockKind.TheVariants as lock_kind
+use Rattle.pyver_documents.specs.DocumentKinds.{is_document_path, kind_of_path, kind_of_word}
+use Rattle.pyver_documents.specs.declared.document_kind.DocumentKind.{DocumentKind}
+use Rattle.pyver_documents.specs.declared.document_kind.DocumentKind.TheVariants.{Lock}
+use Rattle.pyver_locks.specs.declared.lock_kind.LockKind.TheVariants as lock_kind
 use Rattle.pyver_tool.specs.declared.options.FileKind.{FileKind}
 use Rattle.pyver_tool.specs.declared.options.FileKind.TheVariants.{Document, Requirements}
 use Rattle.pyver_tool.specs.declared.help.Topic.TheVariants as topic

@@ -33,7 +33,7 @@ use Rattle.pyver_tool.specs.declared.settings.Settings.{Settings}
 use Rattle.pyver_commands.specs.declared.show.ShowFormat.{ShowFormat}
 use Rattle.pyver_commands.specs.declared.sort.SortOptions.{SortOptions}
 use Rattle.pyver_findings.specs.FindingLaws.{AreAlike, IsUndecided}
-use Rattle.pyver_projects.specs.ProjectLaws.{IsReadable}
+use Rattle.pyver_documents.specs.DocumentLaws.{IsReadable}
 use Rattle.pyver_tool.specs.Checks.{CheckResult, GainsReport}
 use Rattle.pyver_tool.specs.RequirementFiles.{FilesRead}
 use Rattle.pyver_tool.specs.declared.help.Topic.TheVariants as topic

@@ -15,8 +15,8 @@ use crate::requirement_files::{UnopenedFile, read_files};
 use crate::settings::OutputForm;
 use cli_io::push_escaped;
 use pyver_commands::{Answer, Files, RunFailure};
+use pyver_documents::{find_document_problems, find_export_problems};
 use pyver_findings::{Finding, Position, Report, find_problems, push_number, push_text};
-use pyver_projects::{find_document_problems, find_export_problems};
 use std::alloc::{AllocError, Global};
 use std::io::Read;
 
@@ -111,7 +111,7 @@ fn are_several(words: &[String]) -> bool
 }
 
 // That files are taken together, if that matters.
-#[tactic(auto, using(pyver_findings::proofs::Steps::any_viewed))]
+#[tactic(auto, using(pyver_requirements::proofs::Grouped::any_viewed))]
 fn together_note(options: CheckOptions, words: &[String], findings: &[Finding]) -> &'static str
     ensures { result.now ≡ together_note options (map string_bytes words.now) (map finding_of findings.now) }
 {

@@ -2,12 +2,12 @@
 ghost use Rattle.std.specs.Prelude.{◌≡◌, ◌∷◌, ◌++◌, [], IfOk, if◌then◌else◌, map};
 ghost use Rattle.std.specs.List.{flat_map, list_any};
 ghost use Rattle.pyver_findings.specs.Views.{file_of};
-ghost use Rattle.pyver_projects.specs.Comparing.{is_project};
-ghost use Rattle.pyver_projects.specs.ProjectViews.{document_of};
+ghost use Rattle.pyver_documents.specs.Comparing.{is_project};
+ghost use Rattle.pyver_documents.specs.DocumentViews.{document_of};
 ghost use Rattle.pyver_tool.specs.RequirementFiles.{export_searches, is_folder, is_lock, lock_searches, name_between, path_searches, search_of, searches_for, sought_names};
 
+use pyver_documents::{Document, DocumentKind};
 use pyver_findings::{SourceFile, is_export};
-use pyver_projects::{Document, DocumentKind};
 use std::alloc::{AllocError, Global};
 
 // The names of a lock in the folders of a file, the nearest first.
@@ -145,7 +145,7 @@ fn list_document_searches(
 }
 
 // The searches for the locks of these documents; none if one of them is a lock.
-#[tactic(auto, using(pyver_findings::proofs::Steps::any_viewed))]
+#[tactic(auto, using(pyver_requirements::proofs::Grouped::any_viewed))]
 fn list_unlocked_searches(
     alloc: Global,
     documents: &[Document],

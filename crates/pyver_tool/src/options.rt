@@ -3,7 +3,7 @@ ghost use Rattle.std.specs.Prelude.{◌≡◌};
 ghost use Rattle.pyver_tool.specs.SplitWords.{file_kind_of, is_unknown, kind_by_ending, kind_by_name, options, rows_of, unknown_kind};
 
 use crate::help::Topic;
-use pyver_projects::{DocumentKind, LockKind, is_document_path, kind_of_path, kind_of_word};
+use pyver_documents::{DocumentKind, LockKind, is_document_path, kind_of_path, kind_of_word};
 
 // The letter of an option, its name, what its value is, and its values if they are few; empty where it has none. Tuples of
 // strings, since definitions can cite a constant of them.

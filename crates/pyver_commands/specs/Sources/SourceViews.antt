@@ -1,7 +1,6 @@
 -- What the program's types of sources say, apart from where they lie in memory.
 use Rattle.std.specs.Prelude.{ℕ, List}
-use Rattle.pyver_commands.specs.Sources.InputLines.{SourceLine}
-use Rattle.pyver_commands.specs.Sources.InputLines.{Origin as OriginValue}
+use Rattle.pyver_commands.specs.Sources.InputLines.{SourceLine, Origin as OriginValue}
 use Rattle.pyver_commands.specs.Sources.{UnopenedSource as UnopenedValue}
 use Rattle.pyver_commands.specs.declared.sources.open_failure.UnopenedSource.{UnopenedSource}
 use Rattle.pyver_commands.specs.declared.sources.origin.Origin.{Origin}

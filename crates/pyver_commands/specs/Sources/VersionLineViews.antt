@@ -7,8 +7,7 @@ use Rattle.pyver_commands.specs.Sources.InvalidLines.{message_limit}
 use Rattle.pyver_commands.specs.Sources.ReadLines.{IsRead, LineReading, ReadLine, faults}
 use Rattle.pyver_commands.specs.Sources.SourceViews.{origin_line}
 use Rattle.pyver_commands.specs.Sorts.{version_order}
-use Rattle.pyver_commands.specs.Sources.VersionLines.{InputParts, header_text, kept_lines, input_parts, version_lines}
-use Rattle.pyver_commands.specs.Sources.VersionLines.{VersionLine as VersionLineValue}
+use Rattle.pyver_commands.specs.Sources.VersionLines.{InputParts, header_text, kept_lines, input_parts, version_lines, VersionLine as VersionLineValue}
 use Rattle.pyver_commands.specs.declared.sources.line_options.LineOptions.{LineOptions}
 use Rattle.pyver_commands.specs.declared.sources.origin.Origin.{Origin}
 use Rattle.pyver_commands.specs.declared.sources.version_line.VersionLine.{VersionLine}

@@ -1,8 +1,7 @@
 use Rattle.std.proofs.Common.{Bool, map, rules, subst}
 use Rattle.pep440_calls.proofs.newest_string.find.Goals as goal
 use Rattle.pep440_calls.specs.Batches.{IsContainedString}
-use Rattle.pep440_pick.specs.Newest.{preference}
-use Rattle.pep440_pick.specs.Greatest.{Greatest}
+use Rattle.pep440_pick.specs.Newest.{preference, Greatest}
 
 pub returns : goal.returns
 returns c = (

@@ -2,8 +2,7 @@ use Rattle.std.proofs.Common.{◌≡◌, ◌∙◌, ◌+◌, false, List, Bor, I
 use Rattle.pep440_calls.proofs.Placed.{below_more, found_more, kept_more, out_of}
 use Rattle.pep440_calls.specs.CallerBytes.{BytesDenote}
 use Rattle.pep440_calls.specs.Batches.{IsContainedString}
-use Rattle.pep440_pick.specs.Newest.{preference}
-use Rattle.pep440_pick.specs.Greatest.{Greatest, is_above}
+use Rattle.pep440_pick.specs.Newest.{preference, Greatest, is_above}
 use Rattle.pep440_version.specs.Record.{Record}
 use Rattle.pep440_calls.proofs.newest_string.find_newest.Goals as goal
 use Rattle.pep440_calls.proofs.newest_string.find_newest.Goals.{then-is_above, else-is_above+in-UnpackedFields-1, else-is_above+in-PackedWord-1}

@@ -1,6 +1,5 @@
 use Rattle.std.proofs.Common.{IfSome, map, take}
-use Rattle.pep440_pick.specs.Newest.{preference}
-use Rattle.pep440_pick.specs.Greatest.{Greatest}
+use Rattle.pep440_pick.specs.Newest.{preference, Greatest}
 use Rattle.pep440_calls.specs.CallerBytes.{BytesDenote}
 use Rattle.pep440_calls.specs.Batches.{IsContainedString}
 use Rattle.pep440_calls.proofs.newest_string.find_newest.Given as goal

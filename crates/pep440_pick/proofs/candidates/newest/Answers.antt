@@ -4,8 +4,7 @@ use Rattle.std.proofs.lemmas.List.{length-take-le, take_more}
 use Rattle.pep440_version.specs.Key.{record_cmp}
 use Rattle.pep440_version.specs.Key.KeyLaws.{record_total}
 use Rattle.pep440_version.specs.Record.{Record}
-use Rattle.pep440_pick.specs.Greatest.{Greatest, is_above}
-use Rattle.pep440_pick.specs.Newest.{IsContained, all_contain, positioned}
+use Rattle.pep440_pick.specs.Newest.{Greatest, is_above, IsContained, all_contain, positioned}
 use Rattle.pep440_pick.proofs.Choosing.{found_more, kept_more}
 use Rattle.pep440_pick.proofs.Once.{only_candidate}
 use Rattle.pep440_pick.proofs.candidates.newest.Goals as goal

@@ -1,7 +1,6 @@
 use Rattle.std.proofs.Common.{take}
 use Rattle.pep440_version.specs.Key.{record_cmp}
-use Rattle.pep440_pick.specs.Greatest.{Greatest}
-use Rattle.pep440_pick.specs.Newest.{IsContained, positioned}
+use Rattle.pep440_pick.specs.Newest.{Greatest, IsContained, positioned}
 use Rattle.pep440_pick.proofs.candidates.newest.Given as goal
 
 abbrev pub invariant-loop-position : goal.invariant-loop-position

@@ -1,6 +1,6 @@
 use Rattle.std.proofs.Common.{◌-◌, ◌∙◌, ap, length, sym}
 use Rattle.pep440_pick.specs.RequirementReading.{in_parenthesis, listed_extras}
-use Rattle.pep440_pick.proofs.Positions.{behind_read}
+use Rattle.pep440_pick.proofs.Whole.{behind_read}
 use Rattle.pep440_pick.proofs.Parts.{ends_decide, found_named, no_extras_named, not_named, unclosed_named}
 use Rattle.pep440_pick.proofs.requirement_parts.parse_after_name.Goals as goal
 

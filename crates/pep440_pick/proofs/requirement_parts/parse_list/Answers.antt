@@ -3,7 +3,7 @@ use Rattle.std.proofs.lemmas.Option.{IfSome_then}
 use Rattle.pep440_rs.specs.Lists.ListResults.{line_of, list_kind_of}
 use Rattle.pep440_rs.specs.Lists.ListErrors.{list_rejection_of}
 use Rattle.pep440_pick.specs.Requirements.{IsOfList, requirement_rejection_of}
-use Rattle.pep440_pick.proofs.Positions.{of_refusal}
+use Rattle.pep440_pick.proofs.Whole.{of_refusal}
 use Rattle.pep440_pick.proofs.requirement_parts.parse_list.Goals as goal
 
 pub returns-in-Err-clause-refused : goal.returns-in-Err-clause-refused

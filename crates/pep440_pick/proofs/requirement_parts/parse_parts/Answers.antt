@@ -5,7 +5,7 @@ use Rattle.pep440_pick.specs.Names.{is_name_byte}
 use Rattle.pep440_pick.specs.RequirementGrammar.{HasNoMarkerOrUrl}
 use Rattle.pep440_pick.specs.RequirementReading.{prefix_after_name}
 use Rattle.pep440_pick.specs.Requirements.{ParsesPrefix}
-use Rattle.pep440_pick.proofs.Positions.{name_read, rest_read}
+use Rattle.pep440_pick.proofs.Whole.{name_read, rest_read}
 use Rattle.pep440_pick.proofs.Tells.{plain_read}
 use Rattle.pep440_pick.proofs.requirement_parts.parse_parts.Goals as goal
 

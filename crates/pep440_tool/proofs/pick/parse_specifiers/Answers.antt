@@ -1,7 +1,7 @@
 use Rattle.std.proofs.Common.{ap, inr, subst}
 use Rattle.std.specs.Prelude.{option_map}
 use Rattle.pep440_pick.specs.RequirementGrammar.{DerivesRequirement, RejectsRequirement}
-use Rattle.pep440_pick.specs.RequirementTexts.{requirement_rejection_text}
+use Rattle.pep440_pick.specs.Requirements.{requirement_rejection_text}
 use Rattle.pep440_tool.specs.Answers.{line_fault_text}
 use Rattle.pep440_tool.specs.Lines.{RejectsLine}
 use Rattle.pep440_tool.specs.Picks.{shown_requirement_error}

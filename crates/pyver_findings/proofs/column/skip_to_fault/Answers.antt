@@ -5,7 +5,7 @@ use Rattle.pep440_version.specs.Reading.{past}
 use Rattle.pep440_rs.proofs.Blanks.{start_trimmed}
 use Rattle.pep440_rs.specs.Lists.ListResults.{list_kind_of}
 use Rattle.pep440_rs.specs.Lists.ListErrors.{list_rejection_of}
-use Rattle.pyver_findings.specs.Columns.{behind_operator}
+use Rattle.pyver_findings.specs.LineMeanings.{behind_operator}
 use Rattle.pyver_findings.proofs.column.skip_to_fault.Goals as goal
 
 pub returns : goal.returns

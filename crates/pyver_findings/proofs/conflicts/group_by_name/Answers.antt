@@ -4,7 +4,7 @@ use Rattle.std.specs.Option.{option_map_or}
 use Rattle.pyver_findings.specs.Demands.{Demand}
 use Rattle.pyver_findings.specs.Views.{demand_of}
 use Rattle.pyver_findings.specs.declared.demand.Demand.{Demand as DemandValue}
-use Rattle.pyver_findings.proofs.Grouping.{grouped_more}
+use Rattle.pyver_requirements.proofs.Grouped.{grouped_more}
 use Rattle.pyver_findings.proofs.conflicts.group_by_name.Goals as goal
 
 pub loop-line-preserved : goal.loop-line-preserved

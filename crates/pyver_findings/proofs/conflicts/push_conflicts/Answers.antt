@@ -3,13 +3,14 @@ use Rattle.std.proofs.lemmas.Map.Text.{hash_map_updates_str}
 use Rattle.std.specs.HashMap.{get_by}
 use Rattle.std.specs.List.{filter, list_any}
 use Rattle.std.specs.Option.{option_map_or}
-use Rattle.pyver_findings.proofs.Grouping.{sound_taken, swap, taken_more}
+use Rattle.pyver_requirements.proofs.Grouped.{swap}
+use Rattle.pyver_findings.proofs.Grouping.{sound_taken, taken_more}
 use Rattle.pyver_findings.proofs.MarkedConflicts.{mention_more, mentions_done, of_name_of, start, taken_found}
 use Rattle.pyver_findings.specs.Conflicts.{first_mentions, has_same_name}
 use Rattle.pyver_findings.specs.Demands.{Demand}
 use Rattle.pyver_findings.specs.MarkedConflicts.{FindsOfEach}
 use Rattle.pyver_findings.specs.Views.{demand_of}
-use Rattle.pyver_markers.specs.EnvironmentViews.{domain_of}
+use Rattle.pyver_markers.specs.Environments.{domain_of}
 use Rattle.pyver_findings.specs.declared.demand.Demand.{Demand as DemandValue}
 use Rattle.pyver_findings.proofs.conflicts.push_conflicts.Goals as goal
 

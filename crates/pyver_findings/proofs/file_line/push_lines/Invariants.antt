@@ -2,7 +2,7 @@ use Rattle.std.proofs.Common.{◌≡◌, ◌++◌, map}
 use Rattle.std.specs.Vec.Iter.{into_iter_items}
 use Rattle.pyver_findings.specs.FileLines.{file_line}
 use Rattle.pyver_findings.specs.Views.{file_line_of}
-use Rattle.pyver_requirements.specs.LineViews.{logical_line_of}
+use Rattle.pyver_requirements.specs.LineKinds.{logical_line_of}
 use Rattle.pyver_findings.proofs.file_line.push_lines.Given as goal
 
 abbrev pub invariant-loop-line : goal.invariant-loop-line

@@ -6,7 +6,8 @@ use Rattle.pyver_findings.specs.Conflicts.{IsNeeded}
 use Rattle.pyver_findings.specs.Demands.{IsSound}
 use Rattle.pyver_findings.specs.Views.{demand_of}
 use Rattle.pyver_findings.specs.declared.demand.Demand.{Demand as DemandValue}
-use Rattle.pyver_findings.proofs.SmallestLists.{Narrows, first_smaller, half_smaller, is_nil, needs_halves, needs_none, needs_one, nil_needed, not_nil, one_of, sound_front, sound_joined, sound_rest}
+use Rattle.pyver_requirements.proofs.Grouped.{is_nil}
+use Rattle.pyver_findings.proofs.SmallestLists.{Narrows, first_smaller, half_smaller, needs_halves, needs_none, needs_one, nil_needed, not_nil, one_of, sound_front, sound_joined, sound_rest}
 use Rattle.pyver_findings.proofs.halves.+find_core.Goals as goal
 use Rattle.pyver_findings.proofs.halves.+find_core.Goals.{then-is_empty-via-then-is_empty, then-is_empty-via-else-is_empty+then-is_empty-2}
 

@@ -1,7 +1,7 @@
 use Rattle.std.proofs.Common.{◌++◌, ◌≡◌, ◌∙◌, [], IfOk, List, ap, map, subst, sym}
 use Rattle.std.proofs.lemmas.List.{append-nil}
 use Rattle.pyver_findings.proofs.LackedHashes.{lacks_of, none_lacks, same_lacking, waived}
-use Rattle.pyver_findings.proofs.Steps.{any_viewed}
+use Rattle.pyver_requirements.proofs.Grouped.{any_viewed}
 use Rattle.pyver_findings.specs.FileLines.{Finding}
 use Rattle.pyver_findings.specs.Hashes.{is_known_name, has_pin, is_hashed, may_be_hashed, waives_hashes, wants_hashes}
 use Rattle.pyver_findings.specs.Views.{AddsFindings, demand_of, file_line_of, finding_of}

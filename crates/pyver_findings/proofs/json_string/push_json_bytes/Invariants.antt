@@ -1,6 +1,6 @@
 use Rattle.std.proofs.Common.{◌≡◌, ◌++◌, take}
 use Rattle.std.specs.List.{flat_map}
-use Rattle.pyver_findings.specs.ReportObjects.{json_byte}
+use Rattle.pyver_findings.specs.ReportTexts.{json_byte}
 use Rattle.pyver_findings.proofs.json_string.push_json_bytes.Given as goal
 
 abbrev pub invariant-loop-byte : goal.invariant-loop-byte

@@ -5,7 +5,7 @@ use Rattle.std.specs.HashMap.{get_by}
 use Rattle.std.specs.Option.{option_map_or}
 use Rattle.pyver_findings.specs.Views.{demand_of}
 use Rattle.pyver_findings.specs.declared.demand.Demand.{Demand as DemandValue}
-use Rattle.pyver_findings.proofs.Grouping.{added}
+use Rattle.pyver_requirements.proofs.Grouped.{added}
 use Rattle.pyver_findings.proofs.key_groups.push_to_group.Goals as goal
 
 pub returns : goal.returns

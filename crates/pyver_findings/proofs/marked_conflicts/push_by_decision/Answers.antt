@@ -4,7 +4,7 @@ use Rattle.pyver_findings.proofs.MarkedConflicts.{decided_apart, decided_togethe
 use Rattle.pyver_findings.specs.Conflicts.{of_all}
 use Rattle.pyver_findings.specs.MarkedConflicts.{FindsDecided}
 use Rattle.pyver_findings.specs.Views.{AddsFindings, AddsFound, demand_of}
-use Rattle.pyver_findings.specs.declared.cause.Cause.TheVariants as cause
+use Rattle.pyver_requirements.specs.declared.cause.Cause.TheVariants as cause
 use Rattle.pyver_findings.specs.declared.demand.Demand.{Demand as DemandValue}
 use Rattle.pyver_findings.proofs.marked_conflicts.push_by_decision.Goals as goal
 

@@ -3,9 +3,9 @@ use Rattle.std.proofs.lemmas.Result.{IfOk-weaker}
 use Rattle.pyver_findings.proofs.MarkedConflicts.{name_searched, name_undecided, sets_cut, sets_whole}
 use Rattle.pyver_findings.specs.MarkedConflicts.{FindsOfEach, FindsOfFirsts, FindsOfSet, conflicting_sets, few_first_lines, lines_to_pair}
 use Rattle.pyver_findings.specs.Views.{AddsFound, demand_of, demands_of_sets, found_sets_of}
-use Rattle.pyver_findings.specs.declared.cause.Cause.TheVariants as cause
+use Rattle.pyver_requirements.specs.declared.cause.Cause.TheVariants as cause
 use Rattle.pyver_findings.specs.declared.demand.Demand.{Demand as DemandValue}
-use Rattle.pyver_markers.specs.EnvironmentViews.{domain_of}
+use Rattle.pyver_markers.specs.Environments.{domain_of}
 use Rattle.pyver_findings.proofs.marked_conflicts.push_of_markers.Goals as goal
 
 pub returns-in_default : goal.returns-in_default

@@ -6,7 +6,7 @@ use Rattle.std.specs.Option.{option_map_or}
 use Rattle.pyver_findings.specs.Conflicts.{have_none, same_marker}
 use Rattle.pyver_findings.specs.Views.{demand_of}
 use Rattle.pyver_findings.specs.declared.demand.Demand.{Demand as DemandValue}
-use Rattle.pyver_findings.proofs.Grouping.{swap}
+use Rattle.pyver_requirements.proofs.Grouped.{swap}
 use Rattle.pyver_findings.proofs.marker.excludes_all.Goals as goal
 
 pub returns-in-Some-remove-clause-none : goal.returns-in-Some-remove-clause-none

@@ -2,7 +2,7 @@ use Rattle.std.proofs.Common.{Bor}
 use Rattle.pyver_findings.specs.Conflicts.{has_marker}
 use Rattle.pyver_findings.specs.Views.{demand_of}
 use Rattle.pyver_findings.specs.declared.demand.Demand.{Demand as DemandValue}
-use Rattle.pyver_findings.proofs.Grouping.{chosen_more}
+use Rattle.pyver_requirements.proofs.Grouped.{chosen_more}
 use Rattle.pyver_findings.proofs.marker.group_by_marker.Goals as goal
 
 pub loop-line-preserved : goal.loop-line-preserved

@@ -2,7 +2,7 @@ use Rattle.std.proofs.Common.{◌≡◌, ◌++◌, drop, map}
 use Rattle.std.specs.List.{flat_map}
 use Rattle.pyver_findings.specs.NamedFiles.{named_in}
 use Rattle.pyver_findings.specs.Views.{named_file_of}
-use Rattle.pyver_requirements.specs.LineViews.{logical_line_of}
+use Rattle.pyver_requirements.specs.LineKinds.{logical_line_of}
 use Rattle.pyver_findings.proofs.named_files.push_of_lines.Given as goal
 
 abbrev pub invariant-loop-line : goal.invariant-loop-line

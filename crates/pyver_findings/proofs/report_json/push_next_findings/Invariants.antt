@@ -1,6 +1,6 @@
 use Rattle.std.proofs.Common.{◌≡◌, ◌++◌, drop, map}
 use Rattle.std.specs.List.{flat_map}
-use Rattle.pyver_findings.specs.ReportObjects.{next_finding}
+use Rattle.pyver_findings.specs.ReportTexts.{next_finding}
 use Rattle.pyver_findings.specs.Views.{finding_of}
 use Rattle.pyver_findings.proofs.report_json.push_next_findings.Given as goal
 

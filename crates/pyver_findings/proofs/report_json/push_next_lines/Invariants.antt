@@ -1,6 +1,6 @@
 use Rattle.std.proofs.Common.{◌≡◌, ◌++◌, drop, map}
 use Rattle.std.specs.List.{flat_map}
-use Rattle.pyver_findings.specs.ReportObjects.{next_line}
+use Rattle.pyver_findings.specs.ReportTexts.{next_line}
 use Rattle.pyver_findings.specs.Views.{file_line_of}
 use Rattle.pyver_findings.proofs.report_json.push_next_lines.Given as goal
 

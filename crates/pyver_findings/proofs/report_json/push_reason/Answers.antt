@@ -1,6 +1,6 @@
 use Rattle.std.proofs.Common.{◌∙◌, ◌++◌, ap, append_assoc, codes}
 use Rattle.std.specs.Fmt.{decimal}
-use Rattle.pyver_findings.specs.ReportObjects.{json_string}
+use Rattle.pyver_findings.specs.ReportTexts.{json_string}
 use Rattle.pyver_findings.proofs.report_json.push_reason.Goals as goal
 
 pub returns : goal.returns

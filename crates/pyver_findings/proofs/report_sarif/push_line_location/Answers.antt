@@ -2,7 +2,7 @@ use Rattle.std.proofs.Common.{◌∙◌, ◌+◌, ap, take}
 use Rattle.std.specs.Fmt.{decimal}
 use Rattle.pyver_findings.specs.SarifLogs.{line_location, line_start, utf16_length}
 use Rattle.pyver_findings.specs.Views.{file_line_of}
-use Rattle.pyver_findings.proofs.Steps.{part_more}
+use Rattle.pyver_requirements.proofs.Grouped.{part_more}
 use Rattle.pyver_findings.proofs.report_sarif.push_line_location.Goals as goal
 
 pub returns : goal.returns

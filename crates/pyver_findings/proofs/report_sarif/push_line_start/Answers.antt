@@ -1,5 +1,5 @@
 use Rattle.pyver_findings.specs.SarifLogs.{file_uri, line_start}
-use Rattle.pyver_findings.proofs.Steps.{part_more}
+use Rattle.pyver_requirements.proofs.Grouped.{part_more}
 use Rattle.pyver_findings.proofs.report_sarif.push_line_start.Goals as goal
 
 pub returns : goal.returns

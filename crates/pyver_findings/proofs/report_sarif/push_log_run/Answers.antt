@@ -1,7 +1,7 @@
 use Rattle.std.proofs.Common.{◌++◌, map}
 use Rattle.pyver_findings.specs.SarifLogs.{all_rules, finding_results}
 use Rattle.pyver_findings.specs.Views.{finding_of}
-use Rattle.pyver_findings.proofs.Steps.{part_more}
+use Rattle.pyver_requirements.proofs.Grouped.{part_more}
 use Rattle.pyver_findings.proofs.report_sarif.push_log_run.Goals as goal
 
 pub returns : goal.returns

@@ -1,10 +1,9 @@
 use Rattle.std.proofs.Common.{◌∙◌, ap}
 use Rattle.pyver_findings.specs.Reports.{finding_kind, is_ignored, kind_code}
-use Rattle.pyver_findings.specs.ReportObjects.{json_string}
-use Rattle.pyver_findings.specs.ReportTexts.{finding_message}
+use Rattle.pyver_findings.specs.ReportTexts.{json_string, finding_message}
 use Rattle.pyver_findings.specs.SarifLogs.{finding_location, finding_result, suppression}
 use Rattle.pyver_findings.specs.Views.{finding_of}
-use Rattle.pyver_findings.proofs.Steps.{part_more}
+use Rattle.pyver_requirements.proofs.Grouped.{part_more}
 use Rattle.pyver_findings.proofs.report_sarif.push_result.Goals as goal
 
 pub returns : goal.returns

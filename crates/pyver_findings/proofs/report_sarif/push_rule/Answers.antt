@@ -1,6 +1,6 @@
 use Rattle.pyver_findings.specs.Reports.{kind_code, kind_summary, kind_word}
 use Rattle.pyver_findings.specs.SarifLogs.{rule}
-use Rattle.pyver_findings.proofs.Steps.{part_more}
+use Rattle.pyver_requirements.proofs.Grouped.{part_more}
 use Rattle.pyver_findings.proofs.report_sarif.push_rule.Goals as goal
 
 pub returns : goal.returns

@@ -1,6 +1,6 @@
 use Rattle.pyver_findings.specs.SarifLogs.{rule}
 use Rattle.pyver_findings.specs.declared.finding.FindingKind.TheVariants as kind
-use Rattle.pyver_findings.proofs.Steps.{part_more}
+use Rattle.pyver_requirements.proofs.Grouped.{part_more}
 use Rattle.pyver_findings.proofs.report_sarif.push_rules.Goals as goal
 
 pub returns : goal.returns

@@ -1,4 +1,4 @@
-use Rattle.pyver_findings.proofs.Steps.{blanks_more}
+use Rattle.pyver_requirements.proofs.Grouped.{blanks_more}
 use Rattle.pyver_findings.proofs.report_text.push_blanks.Goals as goal
 
 pub loop-character-preserved : goal.loop-character-preserved

@@ -1,8 +1,8 @@
 use Rattle.std.proofs.Common.{◌≡◌, ◌++◌}
 use Rattle.std.proofs.lemmas.Result.{IfOk-weaker}
 use Rattle.pyver_findings.specs.ReportTexts.{left_out_text, left_out_lines}
-use Rattle.pyver_findings.specs.declared.cause.Cause.TheVariants as cause
-use Rattle.pyver_findings.proofs.Steps.{six_parts}
+use Rattle.pyver_requirements.specs.declared.cause.Cause.TheVariants as cause
+use Rattle.pyver_requirements.proofs.Grouped.{six_parts}
 use Rattle.pyver_findings.proofs.report_text.push_lines_left_out.Goals as goal
 
 pub returns : goal.returns

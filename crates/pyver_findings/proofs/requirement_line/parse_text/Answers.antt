@@ -2,7 +2,7 @@ use Rattle.std.proofs.Common.{IfSome, List, ℕ, subst}
 use Rattle.pep440_pick.specs.RequirementGrammar.{RejectsRequirement}
 use Rattle.pep440_pick.specs.Requirements.{requirement_rejection_of}
 use Rattle.pyver_findings.specs.Views.{file_line_of}
-use Rattle.pyver_requirements.specs.LineViews.{line_parts_of}
+use Rattle.pyver_requirements.specs.LineKinds.{line_parts_of}
 use Rattle.pyver_findings.proofs.Rejecting.{error_read}
 use Rattle.pyver_findings.proofs.requirement_line.parse_text.Goals as goal
 

@@ -1,13 +1,11 @@
 use Rattle.std.proofs.Common.{◌≡◌, ◌∙◌, IfSome, Option, Some, string_bytes, subst}
 use Rattle.std.proofs.lemmas.Result.{IfOk-weaker}
 use Rattle.pep440_pick.specs.RequirementGrammar.{RequirementRejection}
-use Rattle.pep440_pick.specs.RequirementTexts.{requirement_rejection_text, requirement_text_of}
-use Rattle.pep440_pick.specs.Requirements.{requirement_rejection_of}
-use Rattle.pyver_findings.specs.Columns.{column}
+use Rattle.pep440_pick.specs.Requirements.{requirement_rejection_text, requirement_text_of, requirement_rejection_of}
+use Rattle.pyver_findings.specs.LineMeanings.{column, IsNone, rejection_meaning, requirement_reason}
 use Rattle.pyver_findings.specs.FileLines.{NoRequirement}
-use Rattle.pyver_findings.specs.LineMeanings.{IsNone, rejection_meaning, requirement_reason}
 use Rattle.pyver_findings.specs.Views.{file_line_of, line_meaning_of}
-use Rattle.pyver_requirements.specs.LineViews.{line_parts_of}
+use Rattle.pyver_requirements.specs.LineKinds.{line_parts_of}
 use Rattle.pyver_findings.proofs.Rejecting.{reason_is, refusal_in}
 use Rattle.pyver_findings.proofs.requirement_line.reject_error.Goals as goal
 

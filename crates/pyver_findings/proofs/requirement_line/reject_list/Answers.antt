@@ -5,9 +5,8 @@ use Rattle.pep440_rs.specs.Lists.ListResults.{line_of, list_kind_of}
 use Rattle.pep440_rs.specs.Lists.ListErrors.{list_rejection_of}
 use Rattle.pep440_rs.specs.Lists.ListErrorTexts.{list_rejection_text, list_text_of}
 use Rattle.pep440_rs.specs.Lists.ListGrammar.{PieceRejection}
-use Rattle.pyver_findings.specs.Columns.{list_column}
+use Rattle.pyver_findings.specs.LineMeanings.{list_column, IsNone}
 use Rattle.pyver_findings.specs.FileLines.{NoRequirement}
-use Rattle.pyver_findings.specs.LineMeanings.{IsNone}
 use Rattle.pyver_findings.specs.Views.{file_line_of, line_meaning_of}
 use Rattle.pyver_findings.proofs.Rejecting.{list_reason_is, list_refusal}
 use Rattle.pyver_findings.proofs.requirement_line.reject_list.Goals as goal

@@ -1,9 +1,8 @@
 use Rattle.std.proofs.Common.{◌≡◌, ◌++◌, map, option_map}
 use Rattle.std.specs.List.{flat_map}
 use Rattle.toml.specs.View.{members_view, view}
-use Rattle.pyver_projects.specs.Documents.{environment_sources}
-use Rattle.pyver_projects.specs.ProjectViews.{project_string_of}
-use Rattle.pyver_projects.specs.ProjectStrings.{members_list}
+use Rattle.pyver_projects.specs.ProjectStrings.{members_list, project_string_of}
+use Rattle.pyver_projects.specs.ProjectTables.{environment_sources}
 use Rattle.pyver_projects.proofs.environments.push_each_environment.Given as goal
 
 abbrev pub invariant-loop-name : goal.invariant-loop-name

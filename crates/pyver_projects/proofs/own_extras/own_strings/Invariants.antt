@@ -1,8 +1,8 @@
 use Rattle.std.proofs.Common.{◌≡◌, ◌++◌, map}
 use Rattle.std.specs.Prelude.{option_map, option_to_list}
 use Rattle.std.specs.Vec.Iter.{into_iter_items}
-use Rattle.pyver_projects.specs.Documents.{own_string}
-use Rattle.pyver_projects.specs.ProjectViews.{project_string_of}
+use Rattle.pyver_projects.specs.ProjectTables.{own_string}
+use Rattle.pyver_projects.specs.ProjectStrings.{project_string_of}
 use Rattle.pyver_projects.proofs.own_extras.own_strings.Given as goal
 
 abbrev pub invariant-loop-string : goal.invariant-loop-string

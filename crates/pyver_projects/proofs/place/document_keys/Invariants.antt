@@ -1,6 +1,5 @@
 use Rattle.std.proofs.Common.{◌≡◌, ◌++◌, ◌≤◌, ◌+◌, drop, map}
-use Rattle.pyver_projects.specs.ProjectStrings.{document_keys, keys_from}
-use Rattle.pyver_projects.specs.ProjectViews.{key_line_of}
+use Rattle.pyver_projects.specs.ProjectStrings.{document_keys, keys_from, key_line_of}
 use Rattle.pyver_projects.proofs.place.document_keys.Given as goal
 
 abbrev pub invariant-loop-at : goal.invariant-loop-at

@@ -1,6 +1,6 @@
 use Rattle.std.proofs.Common.{◌≡◌, ◌++◌, codes, drop, map, string_bytes}
 use Rattle.std.specs.List.{flat_map}
-use Rattle.pyver_projects.specs.PackageRequirements.{python_comparison}
+use Rattle.pyver_projects.specs.RequirementStrings.{python_comparison}
 use Rattle.pyver_projects.proofs.poetry_marker.push_more_pythons.Given as goal
 
 abbrev pub invariant-loop-specifier : goal.invariant-loop-specifier

@@ -1,6 +1,6 @@
 use Rattle.std.proofs.Common.{◌≡◌, drop, map, string_bytes}
-use Rattle.pyver_projects.specs.Documents.{with_variables}
 use Rattle.toml.specs.View.{view}
+use Rattle.pyver_projects.specs.ProjectTables.{with_variables}
 use Rattle.pyver_projects.proofs.poetry_marker.with_variables.Given as goal
 
 abbrev pub invariant-loop-name : goal.invariant-loop-name

@@ -1,7 +1,7 @@
 use Rattle.std.proofs.Common.{◌≡◌, ◌++◌, ◌∙◌, IfOk, ap, not, subst}
 use Rattle.std.specs.Prelude.{bytes_eq, count_by, map, nat_lt}
-use Rattle.pyver_projects.specs.Documents.{unless}
-use Rattle.pyver_projects.specs.ProjectViews.{indexed_names, project_string_of}
+use Rattle.pyver_projects.specs.ProjectTables.{unless}
+use Rattle.pyver_projects.specs.ProjectStrings.{indexed_names, project_string_of}
 use Rattle.pyver_projects.proofs.project.push_duplicate.Goals as goal
 
 pub returns : goal.returns

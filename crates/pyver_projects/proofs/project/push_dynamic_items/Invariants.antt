@@ -2,8 +2,8 @@ use Rattle.std.proofs.Common.{◌≡◌, ◌++◌, drop, map, option_map}
 use Rattle.std.specs.List.{flat_map}
 use Rattle.toml.specs.Data.{Data, as_str}
 use Rattle.toml.specs.View.{view}
-use Rattle.pyver_projects.specs.Documents.{dynamic_source}
-use Rattle.pyver_projects.specs.ProjectViews.{project_string_of}
+use Rattle.pyver_projects.specs.ProjectTables.{dynamic_source}
+use Rattle.pyver_projects.specs.ProjectStrings.{project_string_of}
 use Rattle.pyver_projects.proofs.project.push_dynamic_items.Given as goal
 
 abbrev pub invariant-loop-item : goal.invariant-loop-item

@@ -3,9 +3,8 @@ use Rattle.std.proofs.lemmas.List.{append_assoc}
 use Rattle.std.proofs.lemmas.Result.{IfOk-weaker}
 use Rattle.pep440_pick.specs.Names.{normal}
 use Rattle.toml.specs.View.{view}
-use Rattle.pyver_projects.specs.Documents.{array_sources, extra_sources, name_faults}
-use Rattle.pyver_projects.specs.ProjectViews.{indexed_names, project_string_of}
-use Rattle.pyver_projects.specs.ProjectStrings.{Extra}
+use Rattle.pyver_projects.specs.ProjectStrings.{Extra, indexed_names, project_string_of}
+use Rattle.pyver_projects.specs.ProjectTables.{array_sources, extra_sources, name_faults}
 use Rattle.pyver_projects.proofs.project.push_extra.Goals as goal
 
 pub returns : goal.returns

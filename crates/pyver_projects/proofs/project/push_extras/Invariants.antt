@@ -1,9 +1,8 @@
 use Rattle.std.proofs.Common.{◌≡◌, ◌++◌, map}
 use Rattle.std.specs.List.{flat_map}
 use Rattle.toml.specs.View.{members_view}
-use Rattle.pyver_projects.specs.Documents.{extra_sources}
-use Rattle.pyver_projects.specs.ProjectViews.{indexed_names, project_string_of}
-use Rattle.pyver_projects.specs.ProjectStrings.{members_list}
+use Rattle.pyver_projects.specs.ProjectStrings.{members_list, indexed_names, project_string_of}
+use Rattle.pyver_projects.specs.ProjectTables.{extra_sources}
 use Rattle.pyver_projects.proofs.project.push_extras.Given as goal
 
 abbrev pub invariant-loop-name : goal.invariant-loop-name

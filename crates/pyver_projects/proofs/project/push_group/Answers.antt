@@ -2,8 +2,8 @@ use Rattle.std.proofs.Common.{◌≡◌, ◌∙◌, ◌++◌, codes, map, string
 use Rattle.std.proofs.lemmas.List.{append_assoc}
 use Rattle.std.proofs.lemmas.Result.{IfOk-weaker}
 use Rattle.toml.specs.View.{view}
-use Rattle.pyver_projects.specs.Documents.{group_items, group_sources, name_faults}
-use Rattle.pyver_projects.specs.ProjectViews.{indexed_names, project_string_of}
+use Rattle.pyver_projects.specs.ProjectTables.{group_items, group_sources, name_faults}
+use Rattle.pyver_projects.specs.ProjectStrings.{indexed_names, project_string_of}
 use Rattle.pyver_projects.proofs.project.push_group.Goals as goal
 
 pub returns : goal.returns

@@ -1,8 +1,8 @@
 use Rattle.std.proofs.Common.{◌≡◌, ◌++◌, drop, map}
 use Rattle.std.specs.List.{flat_map}
 use Rattle.toml.specs.View.{view}
-use Rattle.pyver_projects.specs.Documents.{source_from}
-use Rattle.pyver_projects.specs.ProjectViews.{section_of, project_string_of}
+use Rattle.pyver_projects.specs.ProjectTables.{source_from}
+use Rattle.pyver_projects.specs.ProjectStrings.{section_of, project_string_of}
 use Rattle.pyver_projects.proofs.project.push_strings.Given as goal
 
 abbrev pub invariant-loop-item : goal.invariant-loop-item

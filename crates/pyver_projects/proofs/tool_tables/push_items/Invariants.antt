@@ -1,8 +1,8 @@
 use Rattle.std.proofs.Common.{◌≡◌, ◌++◌, drop, map}
 use Rattle.std.specs.List.{flat_map}
 use Rattle.toml.specs.View.{view}
-use Rattle.pyver_projects.specs.Documents.{entry_source}
-use Rattle.pyver_projects.specs.ProjectViews.{project_string_of}
+use Rattle.pyver_projects.specs.ProjectTables.{entry_source}
+use Rattle.pyver_projects.specs.ProjectStrings.{project_string_of}
 use Rattle.pyver_projects.proofs.tool_tables.push_items.Given as goal
 
 abbrev pub invariant-loop-entry : goal.invariant-loop-entry

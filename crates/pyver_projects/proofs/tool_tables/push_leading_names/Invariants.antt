@@ -2,7 +2,7 @@ use Rattle.std.proofs.Common.{◌≡◌, ◌++◌, drop, map}
 use Rattle.std.specs.List.{flat_map}
 use Rattle.toml.specs.Data.{Data, as_str}
 use Rattle.toml.specs.View.{view}
-use Rattle.pyver_projects.specs.Documents.{leading_name}
+use Rattle.pyver_projects.specs.ProjectTables.{leading_name}
 use Rattle.pyver_projects.proofs.tool_tables.push_leading_names.Given as goal
 
 abbrev pub invariant-loop-item : goal.invariant-loop-item

@@ -1,4 +1,4 @@
-use Rattle.pyver_requirements.proofs.MarkerDerivations.{read_steps_are_derived}
+use Rattle.pyver_requirements.proofs.MarkerReadings.{read_steps_are_derived}
 use Rattle.pyver_requirements.proofs.MarkerStepReadings.{steps_are_read}
 use Rattle.pyver_requirements.proofs.laws.markers_have_steps.Goals as goal
 

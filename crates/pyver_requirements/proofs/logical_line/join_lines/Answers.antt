@@ -1,7 +1,7 @@
 use Rattle.std.proofs.Common.{◌∙◌, ap, arith, sym}
 use Rattle.std.proofs.lemmas.Result.{IfOk-weaker}
-use Rattle.pyver_requirements.proofs.Joining.{lines_left, room_more, room_none}
-use Rattle.pyver_requirements.specs.LineViews.{lines_with}
+use Rattle.pyver_requirements.proofs.Lines.{lines_left, room_more, room_none}
+use Rattle.pyver_requirements.specs.LineKinds.{lines_with}
 use Rattle.pyver_requirements.specs.LogicalLines.{filled, joined_from, physical_lines}
 use Rattle.pyver_requirements.proofs.logical_line.join_lines.Goals as goal
 

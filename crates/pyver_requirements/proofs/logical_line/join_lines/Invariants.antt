@@ -1,7 +1,7 @@
 use Rattle.std.proofs.Common.{◌≡◌, ◌+◌, length}
 use Rattle.std.specs.Option.{option_map_or}
-use Rattle.pyver_requirements.proofs.Joining.{HasRoom, lines_left}
-use Rattle.pyver_requirements.specs.LineViews.{lines_with}
+use Rattle.pyver_requirements.proofs.Lines.{HasRoom, lines_left}
+use Rattle.pyver_requirements.specs.LineKinds.{lines_with}
 use Rattle.pyver_requirements.specs.LogicalLines.{joined_lines}
 use Rattle.pyver_requirements.proofs.logical_line.join_lines.Given as goal
 

@@ -1,8 +1,7 @@
 use Rattle.std.proofs.Common.{◌≡◌, [], length}
 use Rattle.std.specs.Prelude.{map}
 use Rattle.pyver_requirements.specs.MarkerReading.{terms_after_steps}
-use Rattle.pyver_requirements.specs.MarkerStepViews.{step_of}
-use Rattle.pyver_requirements.specs.MarkerViews.{terms_of}
+use Rattle.pyver_requirements.specs.MarkerViews.{step_of, terms_of}
 use Rattle.pyver_requirements.proofs.marker_reading.take_steps.Given as goal
 
 abbrev pub invariant-loop-rest : goal.invariant-loop-rest

@@ -2,11 +2,10 @@ use Rattle.std.proofs.Common.{◌≡◌, ◌∙◌, ◌∷◌, ◌-◌, add-one,
 use Rattle.std.proofs.lemmas.List.{take_rest}
 use Rattle.pyver_requirements.specs.MarkerSteps.{end_steps, marker_steps, read_tokens, take_token}
 use Rattle.pyver_requirements.specs.MarkerTokens.{lexemes}
-use Rattle.pyver_requirements.specs.MarkerViews.{IsMarkerFault, token_of}
-use Rattle.pyver_requirements.specs.MarkerStepViews.{open_groups_of}
+use Rattle.pyver_requirements.specs.MarkerViews.{IsMarkerFault, token_of, open_groups_of}
 use Rattle.std.specs.Prelude.{IfErr}
 use Rattle.pep440_rs.proofs.Reading.Passed.{passed}
-use Rattle.pyver_requirements.proofs.MarkerStepLoop.{at_last, blank_byte, lifted_stray, skipped_byte, token_stray, token_taken}
+use Rattle.pyver_requirements.proofs.MarkerStepReadings.{at_last, blank_byte, lifted_stray, skipped_byte, token_stray, token_taken}
 use Rattle.pyver_requirements.proofs.marker_steps.parse_steps.Goals as goal
 use Rattle.pyver_requirements.proofs.marker_steps.parse_steps.Goals.{then-skipped-gt0, else-skipped-gt0+then-not-is_blank_byte+in_ok-groups, else-skipped-gt0+else-not-is_blank_byte}
 

@@ -1,4 +1,4 @@
-use Rattle.pyver_requirements.proofs.TermSets.{insert_step}
+use Rattle.pyver_requirements.proofs.MarkerReadings.{insert_step}
 use Rattle.pyver_requirements.proofs.marker_terms.insert_all.Goals as goal
 
 pub loop-term-preserved : goal.loop-term-preserved

@@ -1,7 +1,7 @@
 use Rattle.std.proofs.Common.{◌≡◌, ◌∙◌, ◌≤◌, List, [], ◌∷◌, ℕ, ap, arith, false, get_or, length, sym, if◌then◌else◌}
 use Rattle.pyver_requirements.specs.LineParts.{before_byte, behind_byte}
 use Rattle.pyver_requirements.specs.MarkerTokens.{constant, marker_word, side, variable}
-use Rattle.pyver_requirements.specs.OptionValues.{is_quote}
+use Rattle.pyver_requirements.specs.Options.{is_quote}
 use Rattle.pyver_requirements.proofs.marker_token.scan_side.Goals as goal
 
 -- the side of a string without a quote at its start

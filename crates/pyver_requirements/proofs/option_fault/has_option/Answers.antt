@@ -6,9 +6,8 @@ use Rattle.pep440_version.proofs.Reading.Prefixes.{past-stops}
 use Rattle.pep440_version.specs.Grammar.{starts}
 use Rattle.pep440_version.specs.Reading.{past}
 use Rattle.pyver_requirements.proofs.OptionWords.{behind_blanks, found_here, found_later, not_found}
-use Rattle.pyver_requirements.specs.LineViews.{word_step_of}
-use Rattle.pyver_requirements.specs.OptionFaults.{Awaits, Ends, Taken, Wrong, is_among, option_name, option_words}
-use Rattle.pyver_requirements.specs.OptionNames.{names_option}
+use Rattle.pyver_requirements.specs.LineKinds.{word_step_of}
+use Rattle.pyver_requirements.specs.Options.{Awaits, Ends, Taken, Wrong, is_among, option_name, option_words, names_option}
 use Rattle.pyver_requirements.proofs.option_fault.has_option.Goals as goal
 use Rattle.pyver_requirements.proofs.option_fault.has_option.Goals.{in-Awaits, in-Taken}
 

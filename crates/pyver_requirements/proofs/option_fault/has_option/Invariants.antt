@@ -1,7 +1,7 @@
 use Rattle.std.proofs.Common.{◌≡◌, false, length}
 use Rattle.std.specs.Char.{is_ascii_whitespace}
 use Rattle.pep440_version.specs.Grammar.{starts}
-use Rattle.pyver_requirements.specs.OptionFaults.{has_option, is_among, option_words}
+use Rattle.pyver_requirements.specs.Options.{has_option, is_among, option_words}
 use Rattle.pyver_requirements.proofs.option_fault.has_option.Given as goal
 
 -- the words that are left decide

@@ -6,8 +6,8 @@ use Rattle.pep440_version.proofs.Reading.Prefixes.{past-stops}
 use Rattle.pep440_version.specs.Grammar.{starts}
 use Rattle.pep440_version.specs.Reading.{past}
 use Rattle.pyver_requirements.proofs.OptionWords.{at_end, behind_blanks, goes_on}
-use Rattle.pyver_requirements.specs.LineViews.{word_step_of}
-use Rattle.pyver_requirements.specs.OptionFaults.{Awaits, Ends, Taken, Wrong, option_words, words_fault}
+use Rattle.pyver_requirements.specs.LineKinds.{word_step_of}
+use Rattle.pyver_requirements.specs.Options.{Awaits, Ends, Taken, Wrong, option_words, words_fault}
 use Rattle.pyver_requirements.proofs.option_fault.words_fault.Goals as goal
 use Rattle.pyver_requirements.proofs.option_fault.words_fault.Goals.{in-Awaits, in-Taken}
 

@@ -1,7 +1,7 @@
 use Rattle.std.proofs.Common.{◌≡◌, None, false, length, option_map}
 use Rattle.std.specs.Char.{is_ascii_whitespace}
 use Rattle.pep440_version.specs.Grammar.{starts}
-use Rattle.pyver_requirements.specs.OptionFaults.{option_words, words_fault}
+use Rattle.pyver_requirements.specs.Options.{option_words, words_fault}
 use Rattle.pyver_requirements.proofs.option_fault.words_fault.Given as goal
 
 -- what comes of the words that are left is the whole

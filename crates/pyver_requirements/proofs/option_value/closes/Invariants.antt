@@ -1,5 +1,5 @@
 use Rattle.std.proofs.Common.{◌≡◌, length}
-use Rattle.pyver_requirements.specs.OptionValues.{closes}
+use Rattle.pyver_requirements.specs.Options.{closes}
 use Rattle.pyver_requirements.specs.declared.option_value.ShellState.TheVariants.{Plain}
 use Rattle.pyver_requirements.proofs.option_value.closes.Given as goal
 

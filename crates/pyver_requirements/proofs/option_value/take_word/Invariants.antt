@@ -1,5 +1,5 @@
 use Rattle.std.proofs.Common.{◌≡◌, ◌++◌, take, drop}
-use Rattle.pyver_requirements.specs.OptionValues.{shell_word}
+use Rattle.pyver_requirements.specs.Options.{shell_word}
 use Rattle.pyver_requirements.specs.declared.option_value.ShellState.TheVariants.{Plain}
 use Rattle.pyver_requirements.proofs.option_value.take_word.Given as goal
 

@@ -1,6 +1,6 @@
 use Rattle.std.proofs.Common.{◌≡◌, ◌++◌, drop, map}
 use Rattle.std.specs.List.{flat_map}
-use Rattle.pyver_projects.specs.ProjectViews.{document_of}
+use Rattle.pyver_documents.specs.DocumentViews.{document_of}
 use Rattle.pyver_tool.specs.RequirementFiles.{search_of, searches_for}
 use Rattle.pyver_tool.proofs.lock_search.list_document_searches.Given as goal
 

@@ -3,8 +3,7 @@ use Rattle.std.specs.Prelude.{IfErr, IfSome}
 use Rattle.pep440_rs.proofs.Reading.Passed.{passed}
 use Rattle.pep440_pick.specs.Requirements.{IsPositioned, needed, prefix_of, requirement_rejection_of}
 use Rattle.pep440_pick.specs.RequirementGrammar.{RejectsRequirement}
-use Rattle.pep440_pick.proofs.Positions.{at_list}
-use Rattle.pep440_pick.proofs.Whole.{prefix_err_refused, list_err_refused, list_ok_found}
+use Rattle.pep440_pick.proofs.Whole.{at_list, prefix_err_refused, list_err_refused, list_ok_found}
 use Rattle.pep440_pick.proofs.requirement.Requirement.parse.Goals as goal
 
 pub returns-in_err-parts-clause-refused : goal.returns-in_err-parts-clause-refused

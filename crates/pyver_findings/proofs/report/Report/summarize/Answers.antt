@@ -2,7 +2,7 @@ use Rattle.std.proofs.Common.{◌≡◌, ◌∙◌, ◌++◌, codes, length, map
 use Rattle.std.proofs.lemmas.List.{length-map}
 use Rattle.pyver_findings.specs.ReportTexts.{count_text, ignored_text, left_out_texts, problems_text}
 use Rattle.pyver_findings.specs.Views.{finding_of}
-use Rattle.pyver_findings.proofs.Steps.{part_more, three_parts}
+use Rattle.pyver_requirements.proofs.Grouped.{part_more, three_parts}
 use Rattle.pyver_findings.proofs.report.Report.summarize.Goals as goal
 
 pub returns : goal.returns

@@ -1,9 +1,9 @@
 use Rattle.std.specs.Prelude.{IfErr}
 use Rattle.pep440_rs.proofs.Reading.Passed.{passed}
-use Rattle.pyver_requirements.proofs.MarkerDerivations.{read_steps_are_derived}
+use Rattle.pyver_requirements.proofs.MarkerReadings.{read_steps_are_derived}
 use Rattle.pyver_requirements.specs.MarkerSteps.{marker_steps}
 use Rattle.pyver_requirements.specs.MarkerViews.{IsMarkerFault}
-use Rattle.pyver_markers.proofs.Steps.{one_marker}
+use Rattle.pyver_markers.proofs.Readings.{one_marker}
 use Rattle.pyver_markers.proofs.environment_marker.EnvironmentMarker.parse.Goals as goal
 
 pub returns-clause-found : goal.returns-clause-found

@@ -1,6 +1,6 @@
 use Rattle.std.proofs.Common.{◌∙◌, ◌++◌, map}
-use Rattle.pyver_requirements.proofs.Joining.{prefixed_none}
-use Rattle.pyver_requirements.specs.LineViews.{logical_line_of}
+use Rattle.pyver_requirements.proofs.Lines.{prefixed_none}
+use Rattle.pyver_requirements.specs.LineKinds.{logical_line_of}
 use Rattle.pyver_requirements.specs.LogicalLines.{filled, joined_from, prefixed}
 use Rattle.pyver_requirements.proofs.logical_line.LineJoiner.new.Goals as goal
 

@@ -1,6 +1,6 @@
 use Rattle.std.proofs.Common.{◌∙◌, ◌++◌, ◌∷◌, [], ap, map, rules}
-use Rattle.pyver_requirements.proofs.Joining.{line, push_end}
-use Rattle.pyver_requirements.specs.LineViews.{logical_line_of}
+use Rattle.pyver_requirements.proofs.Lines.{line, push_end}
+use Rattle.pyver_requirements.specs.LineKinds.{logical_line_of}
 use Rattle.pyver_requirements.specs.LogicalLines.{filled}
 use Rattle.pyver_requirements.proofs.logical_line.LineJoiner.push.Goals as goal
 

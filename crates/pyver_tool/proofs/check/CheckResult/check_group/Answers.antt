@@ -2,9 +2,9 @@ use Rattle.std.proofs.Common.{◌≡◌, ◌∙◌, List, ap, map, subst}
 use Rattle.pyver_findings.specs.FileLines.{File}
 use Rattle.pyver_findings.specs.Reports.{IsReport, Report, joined_report, without_ignored}
 use Rattle.pyver_findings.specs.Views.{file_of, report_of}
-use Rattle.pyver_projects.specs.Comparing.{IsDocumentsReport, IsExportsReport}
-use Rattle.pyver_projects.specs.Meanings.{Document}
-use Rattle.pyver_projects.specs.ProjectViews.{document_of}
+use Rattle.pyver_documents.specs.Comparing.{IsDocumentsReport, IsExportsReport}
+use Rattle.pyver_documents.specs.Meanings.{Document}
+use Rattle.pyver_documents.specs.DocumentViews.{document_of}
 use Rattle.pyver_tool.specs.TaskViews.{check_result_of}
 use Rattle.pyver_tool.specs.Checks.{with_report}
 use Rattle.pyver_tool.specs.RequirementFiles.{read_of, unopened_file_of}

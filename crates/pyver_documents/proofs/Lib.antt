@@ -1,0 +1,6 @@
+pub mod Walks
+pub mod LockedPackages
+pub mod Holding
+pub mod Agreeing
+pub mod Once
+pub mod ExportsFound

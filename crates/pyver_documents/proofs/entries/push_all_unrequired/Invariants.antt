@@ -1,0 +1,12 @@
+use Rattle.std.proofs.Common.{◌≡◌, ◌++◌, drop, map}
+use Rattle.std.specs.Prelude.{option_map, option_to_list}
+use Rattle.std.specs.List.{flat_map}
+use Rattle.pyver_documents.specs.Comparing.{unrequired_in}
+use Rattle.pyver_documents.specs.DocumentViews.{string_reading_of}
+use Rattle.pyver_findings.specs.Views.{finding_of, line_meaning_of}
+use Rattle.pyver_documents.proofs.entries.push_all_unrequired.Given as goal
+
+abbrev pub invariant-loop-entry : goal.invariant-loop-entry
+invariant-loop-entry l =
+    map finding_of l.findings.items ++ flat_map (unrequired_in (option_to_list (option_map (λ n. n.items) l.project)) (map string_reading_of l.strings)) (map line_meaning_of (drop l.entry-index l.entries))
+    ≡ map finding_of l.initial.findings.items ++ flat_map (unrequired_in (option_to_list (option_map (λ n. n.items) l.project)) (map string_reading_of l.strings)) (map line_meaning_of l.entries)

@@ -1,0 +1,25 @@
+//! What is wrong in the documents of a project: `pyproject.toml`, a Pipfile and locks, each by itself and one beside the other.
+//!
+//! In reading order: `DocumentKind`, `kind_of_path` and `kind_of_word`; `Document`, `find_document_problems` and
+//! `find_export_problems`; and `laws`.
+#![tactic(auto)]
+
+mod document_kind;
+mod document_reading;
+mod document_report;
+mod entries;
+mod export_comparison;
+mod extra_comparison;
+mod groups;
+mod known_projects;
+mod lack;
+pub mod laws;
+mod lock_comparison;
+mod locked_reading;
+mod stale_lock;
+mod together;
+
+pub use document_kind::{Document, DocumentKind, is_document_path, kind_of_path, kind_of_word};
+pub use document_report::find_document_problems;
+pub use export_comparison::find_export_problems;
+pub use pyver_locks::lock_kind::LockKind;

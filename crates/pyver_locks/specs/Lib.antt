@@ -1,0 +1,6 @@
+pub mod LockContents
+pub mod KnownEnvironments
+pub mod PackageRequirements
+pub mod LockedFiles
+pub mod ContentHashes
+pub mod Locks

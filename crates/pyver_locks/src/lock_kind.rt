@@ -1,0 +1,18 @@
+//! The kinds of locks.
+
+/// The kinds of locks.
+#[derive(Clone, Copy, Debug, PartialEq, Eq)]
+pub enum LockKind {
+    /// `pylock.toml` or `pylock.NAME.toml` (PEP 751).
+    Pylock,
+    /// `uv.lock`.
+    Uv,
+    /// `poetry.lock`.
+    Poetry,
+    /// `pdm.lock`.
+    Pdm,
+    /// `Pipfile.lock`.
+    Pipfile,
+    /// Any other file with the ending of a document. It is not read.
+    Unknown,
+}

@@ -1,8 +1,0 @@
-use Rattle.std.proofs.Common.{map, take}
-use Rattle.std.specs.List.{AllZip}
-use Rattle.pyver_projects.specs.Meanings.{IsExtraReading}
-use Rattle.pyver_projects.specs.ProjectViews.{extra_reading_of, locked_extra_of}
-use Rattle.pyver_projects.proofs.document_reading.read_extras.Given as goal
-
-abbrev pub invariant-loop-extra : goal.invariant-loop-extra
-invariant-loop-extra l = AllZip (IsExtraReading l.file) (map locked_extra_of (take l.extra-index l.extras)) (map extra_reading_of l.readings.items)

@@ -1,8 +1,0 @@
-use Rattle.std.proofs.Common.{map, take}
-use Rattle.std.specs.List.{AllZip}
-use Rattle.pyver_projects.specs.Meanings.{IsStringReading}
-use Rattle.pyver_projects.specs.ProjectViews.{groups_of, project_string_of, string_reading_of}
-use Rattle.pyver_projects.proofs.document_reading.read_strings.Given as goal
-
-abbrev pub invariant-loop-string : goal.invariant-loop-string
-invariant-loop-string l = AllZip (IsStringReading (groups_of l.groups) (record { name = l.name; text = l.places.quoted.text.now })) (map project_string_of (take l.string-index l.strings)) (map string_reading_of l.readings.items)

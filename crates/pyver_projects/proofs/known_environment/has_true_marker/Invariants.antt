@@ -1,9 +1,0 @@
-use Rattle.std.proofs.Common.{◌≡◌, drop, map}
-use Rattle.std.specs.List.{list_any}
-use Rattle.pyver_projects.specs.KnownEnvironments.{is_true_in}
-use Rattle.pyver_projects.specs.ProjectViews.{parts_of}
-use Rattle.pyver_projects.proofs.known_environment.has_true_marker.Given as goal
-
-abbrev pub invariant-loop-marker : goal.invariant-loop-marker
-invariant-loop-marker l =
-    list_any (is_true_in (parts_of l.parts) l.environment) (map (λ m. m.items) l.markers) ≡ list_any (is_true_in (parts_of l.parts) l.environment) (map (λ m. m.items) (drop l.marker-index l.markers))

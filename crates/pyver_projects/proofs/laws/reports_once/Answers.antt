@@ -1,9 +1,0 @@
-use Rattle.pyver_projects.proofs.ExportsFound.{export_reports_once}
-use Rattle.pyver_projects.proofs.Once.{document_reports_once}
-use Rattle.pyver_projects.proofs.laws.reports_once.Goals as goal
-
-pub returns-clause-documents : goal.returns-clause-documents
-returns-clause-documents c = document_reports_once
-
-pub returns-clause-exports : goal.returns-clause-exports
-returns-clause-exports c = export_reports_once

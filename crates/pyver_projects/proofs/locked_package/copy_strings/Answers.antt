@@ -1,6 +1,0 @@
-use Rattle.std.proofs.Common.{string_bytes}
-use Rattle.pep440_pick.proofs.Normal.{same_views}
-use Rattle.pyver_projects.proofs.locked_package.copy_strings.Goals as goal
-
-pub returns : goal.returns
-returns c = same_views string_bytes _ _ c.in_ok-clone.ensures.cases.0

@@ -1,9 +1,0 @@
-use Rattle.std.proofs.Common.{◌≡◌, ◌++◌, drop, map}
-use Rattle.std.specs.List.{flat_map}
-use Rattle.pyver_projects.specs.Documents.{optional_asks}
-use Rattle.pyver_projects.specs.ProjectViews.{inclusion_of, locked_extra_of}
-use Rattle.pyver_projects.proofs.package_extras.push_extra_asks.Given as goal
-
-abbrev pub invariant-loop-extra : goal.invariant-loop-extra
-invariant-loop-extra l =
-    map inclusion_of l.asks.items ++ flat_map optional_asks (map locked_extra_of (drop l.extra-index l.extras)) ≡ map inclusion_of l.initial.asks.items ++ flat_map optional_asks (map locked_extra_of l.extras)
