@@ -30,7 +30,7 @@ use Rattle.pyver_commands.specs.declared.bump.BumpPart.TheVariants as part
 use Rattle.pyver_commands.specs.MarkerExtents.{DenoteBoth, FailsAsMarker, FindsExtent, HasSteps, HoldsOrNot, PrintsExtent, PrintsSteps, extent_outcome, for_any_python}
 use Rattle.cli_io.specs.Runs.{Outcome}
 use Rattle.pyver_markers.specs.Conditions.{Domain}
-use Rattle.pyver_markers.specs.MarkerValues.{Always, Extent, IsExtent, Nowhere, Somewhere, Undecided}
+use Rattle.pyver_markers.specs.Extents.{Always, Extent, IsExtent, Nowhere, Somewhere, Undecided}
 use Rattle.pyver_requirements.specs.MarkerGrammar.{Both, DenotesMarker, Marker}
 use Rattle.pyver_requirements.specs.MarkerSteps.{Step, steps}
 use Rattle.std.proofs.lemmas.Cmp.{nat_cmp_total}

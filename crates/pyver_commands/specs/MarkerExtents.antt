@@ -6,7 +6,7 @@ use Rattle.cli_io.specs.Runs.{Outcome}
 use Rattle.pyver_commands.specs.Outcomes.{message_outcome}
 use Rattle.pyver_markers.specs.Conditions.{Domain}
 use Rattle.pyver_markers.specs.Environments.{environment_text}
-use Rattle.pyver_markers.specs.MarkerValues.{Always, Extent, IsExtent, Nowhere, Somewhere, Undecided}
+use Rattle.pyver_markers.specs.Extents.{Always, Extent, IsExtent, Nowhere, Somewhere, Undecided}
 use Rattle.pyver_requirements.specs.MarkerGrammar.{Both, DenotesMarker, Marker}
 use Rattle.pyver_requirements.specs.MarkerSteps.{Misfit, Step, marker_reason, marker_steps, steps}
 

@@ -3,8 +3,7 @@ ghost use Rattle.std.specs.Prelude.{◌≡◌, ◌≤◌, ◌++◌, ℕ, List, [
 ghost use Rattle.pyver_commands.specs.AnswerViews.{outcome_of};
 ghost use Rattle.pyver_commands.specs.MarkerExtents.{FailsAsMarker, FindsExtent, HasSteps, PrintsSteps, extent_outcome, fault_byte, marker_fault_message, marker_message};
 ghost use Rattle.pyver_commands.specs.Outcomes.{message_outcome};
-ghost use Rattle.pyver_markers.specs.Environments.{assignment_of, extent_of};
-ghost use Rattle.pyver_markers.specs.MarkerValues.{Somewhere, Undecided};
+ghost use Rattle.pyver_markers.specs.Extents.{assignment_of, extent_of, Somewhere, Undecided};
 ghost use Rattle.pyver_requirements.specs.MarkerGrammar.{DenotesMarker};
 ghost use Rattle.pyver_requirements.specs.MarkerSteps.{marker_steps};
 ghost use Rattle.pyver_requirements.specs.MarkerViews.{IsMarkerFault};

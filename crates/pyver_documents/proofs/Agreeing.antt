@@ -33,8 +33,7 @@ use Rattle.pyver_documents.specs.Meanings.{groups, DocumentReading, IsDocumentRe
 use Rattle.pyver_documents.specs.Together.{parts, project_python, is_standard, same_part, section_part, sections, with_new, same_finding, FindsOfPart, FindsOfParts, part_demands, project_domain, is_marked, all_demands, demand_in_part, has_extra, has_group}
 use Rattle.pyver_documents.specs.declared.document_kind.DocumentKind.{DocumentKind}
 use Rattle.pyver_documents.specs.declared.document_kind.DocumentKind.TheVariants.{Project, Lock}
-use Rattle.pyver_findings.proofs.Found.{Some_is}
-use Rattle.pyver_findings.proofs.Grouping.{under_unmarked}
+use Rattle.pyver_findings.proofs.Grouping.{Some_is, under_unmarked}
 use Rattle.pyver_findings.proofs.MarkedConflicts.{contains_told, tells_right, of_marker_of, set_shared, of_name_of, found_nothing}
 use Rattle.pyver_findings.proofs.SetsFound.{In, Spreads, each_in, in_list, FindsOrTells, asking_found, or_tells, some_spreads, unmarked_found}
 use Rattle.pyver_findings.proofs.SmallestLists.{Allows, more_none, none_allowed}

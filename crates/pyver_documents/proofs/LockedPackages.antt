@@ -25,8 +25,8 @@ use Rattle.pyver_documents.specs.declared.locked_reading.LockedReading.{LockedRe
 use Rattle.pyver_findings.specs.Demands.{Demand, line_demand}
 use Rattle.pyver_findings.specs.FileLines.{FileLine, Finding, Conflicting}
 use Rattle.pyver_findings.specs.declared.finding.Conflict.TheVariants.{PinOutside}
-use Rattle.pyver_locks.specs.KnownEnvironments.{read_value, ReadCondition, is_left_out_in, known_environments, is_for, known_environment, python_record, marker_value}
-use Rattle.pyver_locks.specs.LockContents.{LockParts, LockedPackage, PackageCondition, read_condition_of}
+use Rattle.pyver_locks.specs.KnownEnvironments.{read_value, ReadCondition, is_left_out_in, known_environments, is_for, known_environment, python_record, marker_value, read_condition_of}
+use Rattle.pyver_locks.specs.LockContents.{LockParts, LockedPackage, PackageCondition}
 use Rattle.pyver_locks.specs.declared.known_environment.KnownEnvironment.{KnownEnvironment}
 use Rattle.pyver_locks.specs.declared.known_environment.ReadCondition.{ReadCondition as ReadConditionValue}
 use Rattle.pyver_markers.proofs.Readings.{last_is_value}

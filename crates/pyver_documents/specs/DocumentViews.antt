@@ -19,7 +19,8 @@ use Rattle.pyver_documents.specs.declared.known_projects.KnownProjects.{KnownPro
 use Rattle.pyver_documents.specs.declared.lock_comparison.PackageIndex.{PackageIndex}
 use Rattle.pyver_documents.specs.declared.locked_reading.LockedReading.{LockedReading as LockedReadingValue}
 use Rattle.pyver_findings.specs.Views.{line_meaning_of, file_line_of, finding_of, file_of}
-use Rattle.pyver_locks.specs.LockContents.{LockParts, read_condition_of, parts_of}
+use Rattle.pyver_locks.specs.LockContents.{LockParts, parts_of}
+use Rattle.pyver_locks.specs.KnownEnvironments.{read_condition_of}
 use Rattle.pyver_projects.specs.ProjectStrings.{Inclusion, section_of, indexed_names, inclusions_of, IsNameIndex, IsInclusionIndex}
 use Rattle.pyver_documents.specs.declared.document_reading.DocumentReading.TheVariants as reading
 use Rattle.pyver_projects.specs.declared.project.Section.TheVariants as section

@@ -13,7 +13,8 @@ ghost use Rattle.pyver_findings.specs.Demands.{line_demand};
 ghost use Rattle.pyver_findings.specs.FileLines.{NoRequirement};
 ghost use Rattle.pyver_findings.specs.LineMeanings.{Asks};
 ghost use Rattle.pyver_findings.specs.Views.{file_line_of, line_meaning_of};
-ghost use Rattle.pyver_locks.specs.LockContents.{locked_of, read_condition_of, condition_of_package, locked_file_of, fault_of, requirement_of};
+ghost use Rattle.pyver_locks.specs.LockContents.{locked_of, condition_of_package, locked_file_of, fault_of, requirement_of};
+ghost use Rattle.pyver_locks.specs.KnownEnvironments.{read_condition_of};
 
 use crate::document_reading::version_reason;
 use pep440_pick::{Requirement, normalize_name};

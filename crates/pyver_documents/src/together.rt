@@ -7,7 +7,7 @@ ghost use Rattle.pyver_documents.specs.Together.{section_part, same_part, parts,
 ghost use Rattle.pyver_findings.specs.MarkedConflicts.{FindsOfEach};
 ghost use Rattle.pyver_findings.specs.Reports.{demands_in};
 ghost use Rattle.pyver_findings.specs.Views.{demand_of, line_meaning_of, file_line_of, finding_of, AddsFound};
-ghost use Rattle.pyver_markers.specs.Environments.{domain_of};
+ghost use Rattle.pyver_markers.specs.Extents.{domain_of};
 ghost use Rattle.pyver_projects.specs.ProjectStrings.{section_of, IsInclusionIndex, has_key, inclusions_of};
 
 use crate::document_reading::StringReading;

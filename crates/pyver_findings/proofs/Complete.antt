@@ -6,7 +6,7 @@ use Rattle.std.proofs.lemmas.List.{append_assoc, map-append}
 use Rattle.std.proofs.lemmas.List.Elements.{All-contains_itself, All-weaker}
 use Rattle.std.specs.List.{All, AllZip, Contains, filter, flat_map}
 use Rattle.pep440_pick.specs.RequirementGrammar.{DerivesRequirement, Needed, RequirementRejection}
-use Rattle.pyver_findings.proofs.Found.{Some_is, any_is, in_left, in_right}
+use Rattle.pyver_findings.proofs.Grouping.{Some_is, any_is, in_left, in_right}
 use Rattle.pyver_findings.proofs.LackedHashes.{lacking_found}
 use Rattle.pyver_findings.proofs.Holding.{IsAsked, all_asked, derived_sound}
 use Rattle.pyver_findings.proofs.SmallestLists.{none_by, some_allowed}

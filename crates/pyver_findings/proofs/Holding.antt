@@ -21,7 +21,7 @@ use Rattle.pyver_findings.specs.FindingLaws.{AreNeeded, AskTogether, AsksFor, Co
 use Rattle.pyver_findings.specs.LineMeanings.{IsNone, LeftOut, LineMeaning, AsksNothing, IsKindMeaning, IsMeaning, constraint_faults, has_extras, has_right_url, kind_faults, requirement_meaning, has_scheme, names_file, under_marker, with_marker, with_url}
 use Rattle.pyver_findings.specs.MarkedConflicts.{AskUnder, AsksIn, FindsByUnmarked, FindsDecided, FindsOfEach, FindsOfFirsts, FindsOfName, FindsOfNames, FindsOfSet, FindsOfSets, IsDecision, conflicting_sets, counts_with, everywhere, few_first_lines, lines_to_pair, under_any}
 use Rattle.pyver_findings.proofs.LackedHashes.{hashes_right}
-use Rattle.pyver_findings.proofs.Found.{marker_yes}
+use Rattle.pyver_findings.proofs.Grouping.{marker_yes}
 use Rattle.pyver_findings.proofs.MarkedConflicts.{of_marker_of}
 use Rattle.pyver_findings.proofs.SmallestLists.{Allows, IsSpared, all_smallest, none_allowed, smallest_none, smallest_right}
 use Rattle.pyver_findings.proofs.Rejecting.{invalid_right}

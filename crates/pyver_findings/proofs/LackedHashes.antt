@@ -7,7 +7,7 @@ use Rattle.std.proofs.lemmas.List.Folds.{list_any-append}
 use Rattle.std.specs.List.{All, Contains, flat_map, list_any}
 use Rattle.pyver_requirements.proofs.Grouped.{swap}
 use Rattle.pyver_findings.proofs.StringReadings.{or_false}
-use Rattle.pyver_findings.proofs.Found.{Some_is, in_left, in_right}
+use Rattle.pyver_findings.proofs.Grouping.{Some_is, in_left, in_right}
 use Rattle.pyver_findings.specs.Demands.{Demand}
 use Rattle.pyver_findings.specs.FileLines.{File, FileLine, Finding, NoRequirement, all_lines}
 use Rattle.pyver_findings.specs.FindingLaws.{AreDemands, IsAlone, IsRightHash, LacksHash}

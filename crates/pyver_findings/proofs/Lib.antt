@@ -1,10 +1,9 @@
-pub mod Grouping
 pub mod Rejecting
 pub mod SmallestLists
 pub mod MarkedConflicts
 pub mod LackedHashes
 pub mod Holding
-pub mod Found
+pub mod Grouping
 pub mod Complete
 pub mod SetsFound
 pub mod StringReadings

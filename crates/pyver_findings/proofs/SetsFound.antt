@@ -4,7 +4,7 @@ use Rattle.std.proofs.lemmas.Bool.{ltb-true, true≢false, eqb-true}
 use Rattle.std.proofs.lemmas.List.Elements.{All-cons, All-contains, All-contains_itself, All-filter, All-head, All-nil, All-tail, All-weaker, filter_passes}
 use Rattle.std.specs.List.{All, Any, Contains, filter, flat_map, list_any, remove}
 use Rattle.pyver_findings.proofs.Complete.{asked_sound, none_found, of_lines}
-use Rattle.pyver_findings.proofs.Found.{HasKey, Some_is, all_found, any_is, contains_key, in_left, in_right, name_alike, name_yes, ones_of, same_filter, some_lines, marker_alike, marker_yes, none_before}
+use Rattle.pyver_findings.proofs.Grouping.{HasKey, Some_is, all_found, any_is, contains_key, in_left, in_right, name_alike, name_yes, ones_of, same_filter, some_lines, marker_alike, marker_yes, none_before}
 use Rattle.pyver_findings.proofs.Holding.{asks_alike, asks_beside, both, mapped, none_yes}
 use Rattle.pyver_findings.proofs.MarkedConflicts.{Tells, contains_told, of_marker_of, of_name_of, tells_left, tells_right}
 use Rattle.pyver_findings.proofs.SmallestLists.{all_smallest, smallest_none, Allows, more_none, sound_unmarked}

@@ -21,7 +21,7 @@ use Rattle.pyver_findings.specs.declared.finding.Conflict.{Conflict}
 use Rattle.pyver_findings.specs.declared.finding.Conflict.TheVariants.{NoVersion, PinOutside, TwoPins}
 use Rattle.pyver_markers.specs.Conditions.{Domain, IsEnvironment}
 use Rattle.pyver_markers.specs.Environments.{Assignment, Environment, Extends, assigned, environment_text}
-use Rattle.pyver_markers.specs.MarkerValues.{is_writable}
+use Rattle.pyver_markers.specs.Extents.{is_writable}
 use Rattle.pyver_requirements.specs.LineKinds.{Editable, Invalid, Requirement, line_kind}
 use Rattle.pyver_requirements.specs.LineParts.{LineParts, pip_parts, is_blank_byte, is_url_byte, line_parts}
 use Rattle.pyver_requirements.specs.MarkerGrammar.{DenotesMarker, Marker}

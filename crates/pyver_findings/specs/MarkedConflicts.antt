@@ -10,7 +10,8 @@ use Rattle.pyver_findings.specs.declared.marked_conflicts.Decision.{Decision}
 use Rattle.pyver_findings.specs.declared.marked_conflicts.Decision.TheVariants.{Apart, Together, Unknown}
 use Rattle.pyver_markers.specs.Conditions.{Domain, IsEnvironment, IsNever}
 use Rattle.pyver_markers.specs.Environments.{Assignment, Environment, Extends, assigned, environment_text}
-use Rattle.pyver_markers.specs.MarkerValues.{IsExample, is_writable, value}
+use Rattle.pyver_markers.specs.Extents.{IsExample, is_writable}
+use Rattle.pyver_markers.specs.MarkerValues.{value}
 use Rattle.pyver_requirements.specs.MarkerGrammar.{Both, DenotesMarker, Marker}
 use Rattle.pyver_requirements.specs.MarkerSteps.{Step, steps}
 

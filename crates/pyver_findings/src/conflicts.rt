@@ -4,7 +4,7 @@ ghost use Rattle.std.specs.List.{All, filter};
 ghost use Rattle.pyver_findings.specs.Demands.{IsSound};
 ghost use Rattle.pyver_findings.specs.MarkedConflicts.{FindsOfName, FindsOfNames};
 ghost use Rattle.pyver_findings.specs.Views.{AddsFound, demand_of, demands_of_group, group_at};
-ghost use Rattle.pyver_markers.specs.Environments.{domain_of};
+ghost use Rattle.pyver_markers.specs.Extents.{domain_of};
 
 use crate::demand::Demand;
 use crate::finding::Finding;

@@ -6,7 +6,7 @@ ghost use Rattle.pyver_findings.specs.Demands.{IsSound};
 ghost use Rattle.pyver_findings.specs.MarkedConflicts.{AreJoined, FindsDecided, FindsOfEach, FindsOfFirsts, FindsOfMarkers, FindsOfName, FindsOfSet, HasDenoted, HoldsUnder, IsDenotedBySteps, IsDecision, KnowsSteps, few_first_lines, lines_to_pair, open_lines, under_any, with_first};
 ghost use Rattle.pyver_findings.specs.Views.{AddsFound, demand_of, demands_at, demands_of_sets};
 ghost use Rattle.pyver_requirements.specs.declared.cause.Cause.TheVariants as cause;
-ghost use Rattle.pyver_markers.specs.Environments.{domain_of};
+ghost use Rattle.pyver_markers.specs.Extents.{domain_of};
 ghost use Rattle.pyver_requirements.specs.MarkerGrammar.{DenotesMarker};
 
 use crate::demand::Demand;

@@ -14,7 +14,8 @@ use Rattle.std.specs.Prelude.{bytes_eq, codes}
 use Rattle.std.specs.declared.alloc.AllocError.{AllocError}
 use Rattle.pyver_locks.specs.KnownEnvironments.{with_names, read_value}
 use Rattle.pyver_markers.proofs.Readings.{last_is_value}
-use Rattle.pyver_markers.specs.Environments.{setting_of, environment_of, Assignment, Text, assigned, Setting, Names, Environment}
+use Rattle.pyver_markers.specs.Extents.{setting_of, environment_of}
+use Rattle.pyver_markers.specs.Environments.{Assignment, Text, assigned, Setting, Names, Environment}
 use Rattle.pyver_markers.specs.MarkerValues.{value}
 use Rattle.pyver_markers.specs.declared.environment.Variable.{Variable}
 use Rattle.pyver_requirements.proofs.MarkerStepReadings.{steps_are_read}

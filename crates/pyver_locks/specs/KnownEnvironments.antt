@@ -15,6 +15,7 @@ use Rattle.pyver_markers.specs.MarkerComparisons.{compare}
 use Rattle.pyver_markers.specs.MarkerValues.{after_steps, both_hold, either_holds, last_value}
 use Rattle.pyver_projects.specs.ProjectTables.{is_false}
 use Rattle.pyver_requirements.specs.MarkerSteps.{Misfit, Step, marker_steps}
+use Rattle.pyver_locks.specs.declared.known_environment.ReadCondition.{ReadCondition as ReadConditionValue}
 
 -- ---- their variables
 
@@ -87,6 +88,10 @@ known_environments = environments_of Linux ++ (environments_of Windows ++ enviro
 pub record ReadCondition : Type 0 where
   pub python : List Spec
   pub marker : List ℕ
+
+-- what it holds, apart from where it lies in memory
+abbrev pub read_condition_of : ReadConditionValue → ReadCondition
+read_condition_of c = record { python = c.python; marker = c.marker.items }
 
 -- the value of the marker with these steps, if it is one
 abbrev pub read_value : Environment → Result (List Step) Misfit → Option Bool

@@ -3,8 +3,6 @@
 use Rattle.std.specs.Prelude.{List, ℕ, Option, Bool, string_bytes, map, option_map}
 use Rattle.pyver_locks.specs.declared.locked_package.HashRule.{HashRule}
 use Rattle.pyver_projects.specs.ProjectStrings.{entries}
-use Rattle.pyver_locks.specs.KnownEnvironments.{ReadCondition}
-use Rattle.pyver_locks.specs.declared.known_environment.ReadCondition.{ReadCondition as ReadConditionValue}
 use Rattle.pyver_locks.specs.declared.locked_package.ContentHash.{ContentHash as HashValue}
 use Rattle.pyver_locks.specs.declared.locked_package.LockContents.{LockContents as ContentsValue}
 use Rattle.pyver_locks.specs.declared.locked_package.LockFault.{LockFault as FaultValue}
@@ -91,9 +89,6 @@ pub record LockContents : Type 0 where
 
 abbrev pub condition_of_package : ConditionValue → PackageCondition
 condition_of_package c = record { python = string_bytes c.python; marker = string_bytes c.marker }
-
-abbrev pub read_condition_of : ReadConditionValue → ReadCondition
-read_condition_of c = record { python = c.python; marker = c.marker.items }
 
 abbrev pub locked_of : LockedValue → LockedPackage
 locked_of l = record { line = l.line; name = string_bytes l.name; version = option_map string_bytes l.version; extras = map (λ e. e.items) l.extras.items; condition = option_map condition_of_package l.condition }

@@ -621,7 +621,7 @@ fn may_have_any(alloc: Global, hash: &ContentHash, document: &Table) -> Result<b
     may_have(alloc, value, text.as_slice())
 }
 
-/// The lock is out of date.
+/// Whether the project is known to have another hash than this one of its lock.
 ///
 /// Allocates.
 pub fn is_stale(alloc: Global, hash: &ContentHash, document: &Table) -> Result<bool, AllocError>

@@ -1,9 +1,10 @@
 //! The known environments, and in which of them the marker of a package holds.
 ghost use Rattle.std.specs.Prelude.{◌≡◌, IfOk, map, option_map, string_bytes, ◌++◌};
 ghost use Rattle.std.specs.List.{list_all, list_any};
-ghost use Rattle.pyver_locks.specs.KnownEnvironments.{os_name, platform_machine, platform_system, sys_platform, system_name, python_text, cpython_variables, with_names, known_environment, marker_value, is_true_in, holds_everywhere, environment_name, is_left_out, is_left_out_in, is_for, environments_of, known_environments};
-ghost use Rattle.pyver_locks.specs.LockContents.{parts_of, read_condition_of};
-ghost use Rattle.pyver_markers.specs.Environments.{setting_of, Text, Names, assigned};
+ghost use Rattle.pyver_locks.specs.KnownEnvironments.{os_name, platform_machine, platform_system, sys_platform, system_name, python_text, cpython_variables, with_names, known_environment, marker_value, is_true_in, holds_everywhere, environment_name, is_left_out, is_left_out_in, is_for, environments_of, known_environments, read_condition_of};
+ghost use Rattle.pyver_locks.specs.LockContents.{parts_of};
+ghost use Rattle.pyver_markers.specs.Extents.{setting_of};
+ghost use Rattle.pyver_markers.specs.Environments.{Text, Names, assigned};
 ghost use Rattle.pyver_markers.specs.MarkerValues.{value};
 ghost use Rattle.pyver_projects.specs.ProjectTables.{is_false};
 ghost use Rattle.pyver_requirements.specs.MarkerGrammar.{Marker};
@@ -22,6 +23,7 @@ pub struct ReadCondition {
     pub marker: Vec<u8>,
 }
 
+/// The systems that are known.
 #[derive(Clone, Copy)]
 pub enum System {
     Linux,
@@ -253,7 +255,9 @@ pub(crate) fn holds_everywhere(
 }
 
 impl KnownEnvironment {
-    /// Its name for people.
+    /// The name of the environment for people.
+    ///
+    /// Allocates.
     pub fn name(self, alloc: Global) -> Result<String, AllocError>
         ensures { IfOk result (λ name. string_bytes name ≡ environment_name self) }
     {
@@ -283,7 +287,9 @@ impl KnownEnvironment {
         is_for(alloc, parts, self)
     }
 
-    /// A lock with these parts leaves the package out, if it has a condition.
+    /// Whether a lock with these parts leaves a package with this condition out, if there is one.
+    ///
+    /// Allocates.
     pub fn is_left_out_in(
         self,
         alloc: Global,

@@ -10,8 +10,9 @@ use Rattle.pyver_requirements.specs.MarkerTokens.{Side}
 use Rattle.pyver_requirements.specs.declared.marker_operator.MarkerOperator.{MarkerOperator}
 use Rattle.pyver_markers.proofs.BoxLaws.{first_and_rest, parts_of_both, parts_of_either}
 use Rattle.pyver_markers.specs.Conditions.{AreLinked, Domain, HasAllowed, HasNoText, HasPython, HasVersion, IsAllowed, IsEnvironment, IsNever, setting_version, short_version, variable_version, LacksOthers, LacksSystem, first_asked}
-use Rattle.pyver_markers.specs.Environments.{Assignment, Environment, Extends, Names, Setting, Text, assignment_of, environment_of, found_environment, setting_of, HasSystem, IsOn, System, has_known_name, is_known_system, has_either_name, has_windows_name, same_system, system}
-use Rattle.pyver_markers.specs.MarkerValues.{IsAlways, IsExample, is_writable, both_hold, either_holds, value}
+use Rattle.pyver_markers.specs.Environments.{Assignment, Environment, Extends, Names, Setting, Text, HasSystem, IsOn, System, has_known_name, is_known_system, has_either_name, has_windows_name, same_system, system}
+use Rattle.pyver_markers.specs.Extents.{assignment_of, environment_of, found_environment, setting_of, IsAlways, IsExample, is_writable}
+use Rattle.pyver_markers.specs.MarkerValues.{both_hold, either_holds, value}
 use Rattle.pyver_markers.specs.MarkerComparisons.{ascii_version, compare, compare_left, compare_right}
 use Rattle.pyver_markers.specs.declared.environment.Variable.{Variable}
 use Rattle.pyver_markers.specs.declared.found_environment.FoundVariable.{FoundVariable}

@@ -1,6 +1,7 @@
 //! Boxes without environments.
 ghost use Rattle.std.specs.Prelude.{◌≡◌, IfOk, false, map, true};
-ghost use Rattle.pyver_markers.specs.Environments.{condition_of, domain_of, Environment};
+ghost use Rattle.pyver_markers.specs.Extents.{condition_of, domain_of};
+ghost use Rattle.pyver_markers.specs.Environments.{Environment};
 ghost use Rattle.pyver_markers.specs.Boxes.{in_boxes};
 ghost use Rattle.pyver_markers.specs.Conditions.{HasNoEnvironment, IsEnvironment, lacks_any_text, lacks_platform_text};
 

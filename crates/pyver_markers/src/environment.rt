@@ -1,7 +1,8 @@
 //! Environments, and how they are written.
 ghost use Rattle.std.specs.Prelude.{◌≡◌, ◌==◌, ◌++◌, IfOk, codes, map, option_map};
 ghost use Rattle.std.specs.List.{flat_map, list_any};
-ghost use Rattle.pyver_markers.specs.Environments.{assignment_of, environment_of, setting_of, assignment_text, environment_text, quoted_text};
+ghost use Rattle.pyver_markers.specs.Extents.{assignment_of, environment_of, setting_of};
+ghost use Rattle.pyver_markers.specs.Environments.{assignment_text, environment_text, quoted_text};
 
 use crate::found_environment::FoundVariable;
 use pep440_sets::VersionSet;

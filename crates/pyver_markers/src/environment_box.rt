@@ -1,7 +1,7 @@
 //! Boxes of environments, and the conditions that make them.
 ghost use Rattle.std.specs.Prelude.{◌≡◌, ◌++◌, IfOk, map, true};
 ghost use Rattle.pyver_markers.specs.Boxes.{Box, both_boxes, comparison_boxes, either_boxes, join_boxes, products};
-ghost use Rattle.pyver_markers.specs.Environments.{boxes_of, condition_of, domain_of};
+ghost use Rattle.pyver_markers.specs.Extents.{boxes_of, condition_of, domain_of};
 ghost use Rattle.pyver_markers.specs.Conditions.{HasNoEnvironment};
 ghost use Rattle.pyver_requirements.specs.MarkerViews.{side_of};
 

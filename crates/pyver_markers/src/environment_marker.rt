@@ -2,8 +2,8 @@
 ghost use Rattle.std.specs.Prelude.{◌≡◌, [], IfErr, IfOk, IfSome, map, true};
 ghost use Rattle.pyver_markers.specs.Boxes.{HasValueInBoxes, boxes};
 ghost use Rattle.pyver_markers.specs.Conditions.{IsNever};
-ghost use Rattle.pyver_markers.specs.Environments.{assignment_of, boxes_of, domain_of, environment_of, extent_of, found_environment};
-ghost use Rattle.pyver_markers.specs.MarkerValues.{IsExample, IsExtent, after_step, after_steps, both_hold, earlier_values, either_holds, last_value, value};
+ghost use Rattle.pyver_markers.specs.Extents.{assignment_of, boxes_of, domain_of, environment_of, extent_of, found_environment, IsExample, IsExtent};
+ghost use Rattle.pyver_markers.specs.MarkerValues.{after_step, after_steps, both_hold, earlier_values, either_holds, last_value, value};
 ghost use Rattle.pyver_markers.specs.MarkerComparisons.{compare};
 ghost use Rattle.pyver_requirements.specs.MarkerGrammar.{Both, DenotesMarker, Marker};
 ghost use Rattle.pyver_requirements.specs.MarkerSteps.{marker_steps, steps};

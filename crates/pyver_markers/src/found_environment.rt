@@ -2,8 +2,8 @@
 ghost use Rattle.std.specs.Prelude.{◌≡◌, ◌==◌, IfOk, codes, map, option_map, true};
 ghost use Rattle.std.specs.List.{list_all, list_any};
 ghost use Rattle.pyver_markers.specs.Conditions.{AreLinked, HasAllowed, HasNoText, HasPython, HasVersion, IsAllowed, IsEnvironment, first_two, short_version, variable_version};
-ghost use Rattle.pyver_markers.specs.Environments.{assignment_of, domain_of, environment_of, found_environment, HasSystem, Text};
-ghost use Rattle.pyver_markers.specs.MarkerValues.{is_writable};
+ghost use Rattle.pyver_markers.specs.Extents.{assignment_of, domain_of, environment_of, found_environment, is_writable};
+ghost use Rattle.pyver_markers.specs.Environments.{HasSystem, Text};
 
 use crate::environment::{Domain, Setting, Variable};
 use crate::environment_box::Condition;

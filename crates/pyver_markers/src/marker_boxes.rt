@@ -1,7 +1,7 @@
 //! The boxes of a marker, by its steps.
 ghost use Rattle.std.specs.Prelude.{◌≡◌, [], IfOk, map, not};
 ghost use Rattle.pyver_markers.specs.Boxes.{Box, comparison_boxes, join_boxes};
-ghost use Rattle.pyver_markers.specs.Environments.{boxes_of};
+ghost use Rattle.pyver_markers.specs.Extents.{boxes_of};
 ghost use Rattle.pyver_markers.specs.MarkerValues.{after_step, after_steps, earlier_values, last_value};
 ghost use Rattle.pyver_requirements.specs.MarkerViews.{step_of};
 

@@ -3,7 +3,7 @@ ghost use Rattle.std.specs.Prelude.{◌≡◌, ◌==◌, IfOk, bytes_eq, map, op
 ghost use Rattle.std.specs.List.{list_any};
 ghost use Rattle.pep440_pick.specs.Names.{normal};
 ghost use Rattle.pyver_markers.specs.MarkerComparisons.{compare, compare_left, compare_names, compare_right, compare_texts, is_name_variable, is_version_variable};
-ghost use Rattle.pyver_markers.specs.Environments.{environment_of, setting_of};
+ghost use Rattle.pyver_markers.specs.Extents.{environment_of, setting_of};
 ghost use Rattle.pyver_requirements.specs.MarkerViews.{side_of};
 
 use crate::environment::{Setting, Variable, find_setting};

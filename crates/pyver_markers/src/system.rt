@@ -2,7 +2,8 @@
 ghost use Rattle.std.specs.Prelude.{◌≡◌, IfOk, Some, false, map, true};
 ghost use Rattle.pyver_markers.specs.Boxes.{in_box};
 ghost use Rattle.pyver_markers.specs.Conditions.{LacksOthers, LacksSystem, first_asked};
-ghost use Rattle.pyver_markers.specs.Environments.{Environment, HasSystem, Text, has_known_name, is_known_system, has_either_name, has_windows_name, is_system, same_system, system, condition_of, system_of};
+ghost use Rattle.pyver_markers.specs.Environments.{Environment, HasSystem, Text, has_known_name, is_known_system, has_either_name, has_windows_name, is_system, same_system, system};
+ghost use Rattle.pyver_markers.specs.Extents.{condition_of, system_of};
 
 use crate::environment_box::Condition;
 use crate::text_condition::{are_met_at, find_first_text};

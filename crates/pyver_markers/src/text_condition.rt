@@ -1,7 +1,7 @@
 //! What conditions compare a variable with, and what they ask of a string.
 ghost use Rattle.std.specs.Prelude.{◌≡◌, IfOk, IfSome, map, option_map};
 ghost use Rattle.std.specs.List.{list_all};
-ghost use Rattle.pyver_markers.specs.Environments.{condition_of};
+ghost use Rattle.pyver_markers.specs.Extents.{condition_of};
 ghost use Rattle.pyver_markers.specs.Boxes.{is_met};
 ghost use Rattle.pyver_markers.specs.Conditions.{IsOperand, asked_text, beside_variable, compare_operand, first_asked, is_met_at, lacks_text, operand_text, wants_equal};
 ghost use Rattle.pyver_requirements.specs.MarkerViews.{side_of};

@@ -12,7 +12,7 @@ use Rattle.pyver_projects.specs.declared.place.QuotedLines.{QuotedLines}
 use Rattle.pyver_projects.specs.declared.project.EntryTool.{EntryTool}
 use Rattle.pyver_requirements.specs.declared.cause.Cause.{Cause}
 use Rattle.std.specs.Borrow.{Bor}
-use Rattle.std.specs.HashMap.{HashMap, get_by}
+use Rattle.std.specs.HashMap.{HashMap, get_by as get_hashed}
 use Rattle.pyver_projects.specs.declared.inclusions.Inclusion.{Inclusion as InclusionValue}
 use Rattle.pyver_projects.specs.declared.inclusions.InclusionIndex.{InclusionIndex}
 use Rattle.pyver_projects.specs.declared.inclusions.NameIndex.{NameIndex}
@@ -313,7 +313,7 @@ inclusion_of i = record { group = i.group.items; included = i.included.items }
 
 -- the name is in the set
 abbrev pub has_key : {X S : Type 0} → HashMap (Bor (List ℕ)) X S → List ℕ → Bool
-has_key names name = is_some (get_by (λ k. bytes_eq name k.now) names)
+has_key names name = is_some (get_hashed (λ k. bytes_eq name k.now) names)
 
 -- those of the set are those before, and these
 abbrev pub IsFound : {X S : Type 0} → (List ℕ → Bool) → HashMap (Bor (List ℕ)) X S → List (Bor (List ℕ)) → Type 0
@@ -337,7 +337,7 @@ abbrev pub indexed_names : NameIndex → List (List ℕ)
 indexed_names index = map (λ n. n.items) index.names.now
 
 abbrev pub IsNameIndex : NameIndex → Type 0
-IsNameIndex index = (q : List ℕ) → get_by (λ k. bytes_eq q k.now) index.repeated ≡ is_repeated (count_by (bytes_eq q) (indexed_names index))
+IsNameIndex index = (q : List ℕ) → get_hashed (λ k. bytes_eq q k.now) index.repeated ≡ is_repeated (count_by (bytes_eq q) (indexed_names index))
 
 -- ---- inclusions by their groups
 
@@ -346,4 +346,4 @@ inclusions_of index = map inclusion_of index.inclusions.now
 
 -- under each name stand the inclusions of the group with this name, in their order
 abbrev pub IsInclusionIndex : InclusionIndex → Type 0
-IsInclusionIndex index = (q : List ℕ) → map (λ i. inclusion_of i.now) (option_map_or (λ group. group.items) (get_by (λ k. bytes_eq q k.now) index.by_group) []) ≡ filter (λ i. bytes_eq q i.group) (inclusions_of index)
+IsInclusionIndex index = (q : List ℕ) → map (λ i. inclusion_of i.now) (option_map_or (λ group. group.items) (get_hashed (λ k. bytes_eq q k.now) index.by_group) []) ≡ filter (λ i. bytes_eq q i.group) (inclusions_of index)

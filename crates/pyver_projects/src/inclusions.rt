@@ -20,7 +20,7 @@ pub struct Inclusion {
     pub included: Vec<u8>,
 }
 
-/// That the first includes the second.
+/// The inclusion of the second group by the first.
 ///
 /// Allocates.
 pub fn new_inclusion(group: &Vec<u8>, included: &Vec<u8>) -> Result<Inclusion, AllocError>
@@ -59,7 +59,7 @@ pub(crate) fn table_names(alloc: Global, table: &Table) -> Result<Vec<Vec<u8>>, 
     Ok(names)
 }
 
-/// The names of the groups of the document.
+/// The names of the groups of the document (PEP 735), in their normal form.
 ///
 /// Allocates.
 pub fn group_names(alloc: Global, document: &Table) -> Result<Vec<Vec<u8>>, AllocError>
@@ -80,7 +80,7 @@ pub fn has_tool(name: &str, document: &Table) -> bool
     inside(top(document, "tool"), name).is_some()
 }
 
-/// The tool of the project installs its groups with its dependencies, as uv and Poetry do.
+/// Whether the tool of the project installs its groups with its dependencies, as uv and Poetry do; by PEP 735 a group holds by itself.
 ///
 /// Allocates nothing.
 pub fn has_group_tool(document: &Table) -> bool
@@ -122,6 +122,9 @@ fn push_to_group<'a>(
 }
 
 impl<'a> InclusionIndex<'a> {
+    /// The index of these inclusions.
+    ///
+    /// Allocates.
     pub fn new(alloc: Global, inclusions: &'a [Inclusion]) -> Result<InclusionIndex<'a>, AllocError>
         ensures index { IfOk result (λ index. IsInclusionIndex index) }
         ensures inclusions { IfOk result (λ index. inclusions_of index ≡ map inclusion_of inclusions.now) }
@@ -137,6 +140,8 @@ impl<'a> InclusionIndex<'a> {
     }
 
     /// The inclusions of the group with this name, if there are any.
+    ///
+    /// Allocates nothing.
     pub fn of_group(&self, name: &[u8]) -> Option<&Vec<&'a Inclusion>>
         requires { IsInclusionIndex self.now }
         ensures { map (λ i. inclusion_of i.now) (option_map_or (λ g. g.now.items) result []) ≡ filter (λ i. bytes_eq name.now i.group) (inclusions_of self.now) }
@@ -153,6 +158,9 @@ pub struct NameIndex<'a> {
 }
 
 impl<'a> NameIndex<'a> {
+    /// The index of these names.
+    ///
+    /// Allocates.
     pub fn new(alloc: Global, names: &'a [Vec<u8>]) -> Result<NameIndex<'a>, AllocError>
         ensures index { IfOk result (λ index. IsNameIndex index) }
         ensures names { IfOk result (λ index. indexed_names index ≡ map (λ n. n.items) names.now) }
@@ -165,7 +173,9 @@ impl<'a> NameIndex<'a> {
         Ok(NameIndex { names, repeated })
     }
 
-    /// The name is one of these.
+    /// Whether the name is one of these.
+    ///
+    /// Allocates nothing.
     pub fn has(&self, name: &[u8]) -> bool
         requires { IsNameIndex self.now }
         ensures { result ≡ list_any (bytes_eq name.now) (indexed_names self.now) }
@@ -173,7 +183,9 @@ impl<'a> NameIndex<'a> {
         self.repeated.contains_key(name)
     }
 
-    /// The name is two of these, or more.
+    /// Whether the name is two of these, or more.
+    ///
+    /// Allocates nothing.
     pub fn has_twice(&self, name: &[u8]) -> bool
         requires { IsNameIndex self.now }
         ensures { result ≡ nat_lt 1 (count_by (bytes_eq name.now) (indexed_names self.now)) }

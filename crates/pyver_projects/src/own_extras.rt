@@ -58,7 +58,7 @@ pub fn string_extras(alloc: Global, text: &str) -> Result<Vec<String>, AllocErro
     copy_extras(alloc, in_brackets(skip_blanks(rest)))
 }
 
-/// The string has a marker or a URL.
+/// Whether the string has a marker or a URL (PEP 508).
 ///
 /// Allocates nothing.
 pub fn is_conditional(text: &str) -> bool
@@ -166,7 +166,7 @@ fn own_strings(
     Ok(found)
 }
 
-/// The strings of `pyproject.toml`, or of a Pipfile.
+/// The strings of `pyproject.toml` (PEP 621, PEP 735), or of a Pipfile, also in tables of tools.
 ///
 /// Allocates.
 pub fn project_strings(alloc: Global, document: &Table) -> Result<Vec<ProjectString>, AllocError>
@@ -178,7 +178,7 @@ pub fn project_strings(alloc: Global, document: &Table) -> Result<Vec<ProjectStr
     Ok(found)
 }
 
-/// The names of its extras, by PEP 621 or as Poetry has them.
+/// The names of the extras of the document, by PEP 621 or as Poetry has them.
 ///
 /// Allocates.
 #[tactic(auto, using(crate::proofs::Walks::joined_views))]

@@ -310,7 +310,7 @@ pub fn number_keys(alloc: Global, keys: &[KeyLine]) -> Result<BTreeMap<&[u8], us
     Ok(numbers)
 }
 
-/// The lines of the strings in a document, and of these, its keys.
+/// The lines of the strings in the document with these keys, and of the keys.
 ///
 /// Allocates.
 pub fn read_places<'a>(

@@ -38,7 +38,7 @@ fn written_name(document: &Table) -> Option<&str>
     first_of(text(name), text(inside(poetry, "name")))
 }
 
-/// Its normal form, if it has a name.
+/// The name of the project in its normal form, if it has one.
 ///
 /// Allocates.
 pub fn project_name(alloc: Global, document: &Table) -> Result<Option<Vec<u8>>, AllocError>

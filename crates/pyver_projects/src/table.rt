@@ -99,7 +99,7 @@ pub fn listed_strings(alloc: Global, value: Option<&Value>) -> Result<Vec<String
     Ok(strings)
 }
 
-/// The value is an array, if there is one.
+/// Whether the value is an array, if there is one.
 ///
 /// Allocates nothing.
 pub fn is_array_or_none(value: Option<&Value>) -> bool
@@ -111,7 +111,7 @@ pub fn is_array_or_none(value: Option<&Value>) -> bool
     }
 }
 
-/// The value is a table, if there is one.
+/// Whether the value is a table, if there is one.
 ///
 /// Allocates nothing.
 pub fn is_table_or_none(value: Option<&Value>) -> bool
@@ -123,7 +123,7 @@ pub fn is_table_or_none(value: Option<&Value>) -> bool
     }
 }
 
-/// The value is a string, if there is one.
+/// Whether the value is a string, if there is one.
 ///
 /// Allocates nothing.
 pub fn is_text_or_none(value: Option<&Value>) -> bool

@@ -4,7 +4,8 @@ use Rattle.pyver_documents.proofs.Walks.{locked_so}
 use Rattle.pyver_documents.specs.DocumentViews.{locked_reading_of}
 use Rattle.pyver_documents.specs.Meanings.{IsLockedReading, IsVersionReading}
 use Rattle.pyver_findings.specs.Views.{file_line_of}
-use Rattle.pyver_locks.specs.LockContents.{locked_of, read_condition_of}
+use Rattle.pyver_locks.specs.LockContents.{locked_of}
+use Rattle.pyver_locks.specs.KnownEnvironments.{read_condition_of}
 use Rattle.pyver_documents.proofs.locked_reading.read_package.Goals as goal
 
 pub returns : goal.returns

@@ -8,7 +8,8 @@ use Rattle.pyver_documents.proofs.Walks.{version_read}
 use Rattle.pyver_documents.specs.DocumentViews.{locked_reading_of}
 use Rattle.pyver_findings.specs.FileLines.{NoRequirement}
 use Rattle.pyver_findings.specs.Views.{file_line_of}
-use Rattle.pyver_locks.specs.LockContents.{locked_of, read_condition_of}
+use Rattle.pyver_locks.specs.LockContents.{locked_of}
+use Rattle.pyver_locks.specs.KnownEnvironments.{read_condition_of}
 use Rattle.pyver_documents.proofs.locked_reading.read_version.Goals as goal
 
 pub returns-in-Err : goal.returns-in-Err

@@ -7,7 +7,7 @@ use Rattle.pyver_findings.specs.Conflicts.{first_mentions, has_same_name}
 use Rattle.pyver_findings.specs.Demands.{Demand}
 use Rattle.pyver_findings.specs.MarkedConflicts.{FindsOfEach}
 use Rattle.pyver_findings.specs.Views.{AddsFound, demand_of}
-use Rattle.pyver_markers.specs.Environments.{domain_of}
+use Rattle.pyver_markers.specs.Extents.{domain_of}
 use Rattle.pyver_findings.proofs.conflicts.push_conflicts.Given as goal
 
 abbrev pub invariant-loop-line : goal.invariant-loop-line

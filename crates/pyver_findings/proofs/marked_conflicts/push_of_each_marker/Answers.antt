@@ -9,7 +9,7 @@ use Rattle.pyver_findings.specs.Views.{demand_of}
 use Rattle.pyver_findings.specs.declared.demand.Demand.{Demand as DemandValue}
 use Rattle.pyver_findings.proofs.Grouping.{at_line, taken_more}
 use Rattle.pyver_findings.proofs.MarkedConflicts.{marker_looked, marker_passed, mention_more, mentions_done, of_marker_of, start}
-use Rattle.pyver_markers.specs.Environments.{domain_of}
+use Rattle.pyver_markers.specs.Extents.{domain_of}
 use Rattle.pyver_findings.proofs.marked_conflicts.push_of_each_marker.Goals as goal
 use Rattle.pyver_findings.proofs.marked_conflicts.push_of_each_marker.Goals.{then-branch+in_ok-push_of_marker, else-branch}
 

@@ -6,7 +6,7 @@ use Rattle.pyver_findings.proofs.MarkedConflicts.{Continues, of_marker_of}
 use Rattle.pyver_findings.specs.Conflicts.{first_mentions, has_marker, has_same_marker}
 use Rattle.pyver_findings.specs.MarkedConflicts.{FindsOfEach}
 use Rattle.pyver_findings.specs.Views.{AddsFound, demand_of}
-use Rattle.pyver_markers.specs.Environments.{domain_of}
+use Rattle.pyver_markers.specs.Extents.{domain_of}
 use Rattle.pyver_findings.proofs.marked_conflicts.push_of_each_marker.Given as goal
 
 abbrev pub invariant-loop-line : goal.invariant-loop-line

@@ -4,7 +4,7 @@ use Rattle.pyver_findings.proofs.MarkedConflicts.{each_done, each_more, start}
 use Rattle.pyver_findings.specs.MarkedConflicts.{FindsOfSet}
 use Rattle.pyver_findings.specs.Views.{AddsFound, demand_of}
 use Rattle.pyver_findings.specs.declared.demand.Demand.{Demand as DemandValue}
-use Rattle.pyver_markers.specs.Environments.{domain_of}
+use Rattle.pyver_markers.specs.Extents.{domain_of}
 use Rattle.pyver_findings.proofs.marked_conflicts.push_of_each_set.Goals as goal
 
 pub loop-set-init : goal.loop-set-init

@@ -2,7 +2,7 @@ use Rattle.std.proofs.Common.{drop, map}
 use Rattle.pyver_findings.proofs.MarkedConflicts.{Continues}
 use Rattle.pyver_findings.specs.MarkedConflicts.{FindsOfEach, FindsOfSet}
 use Rattle.pyver_findings.specs.Views.{AddsFound, demand_of, demands_of_sets}
-use Rattle.pyver_markers.specs.Environments.{domain_of}
+use Rattle.pyver_markers.specs.Extents.{domain_of}
 use Rattle.pyver_findings.proofs.marked_conflicts.push_of_each_set.Given as goal
 
 abbrev pub invariant-loop-set : goal.invariant-loop-set

@@ -2,7 +2,7 @@ use Rattle.std.proofs.Common.{◌≡◌, ◌∙◌, ◌∷◌, ◌++◌, [], Bor
 use Rattle.pyver_findings.specs.MarkedConflicts.{FindsOfSet}
 use Rattle.pyver_findings.specs.Views.{AddsFound, demand_of}
 use Rattle.pyver_findings.specs.declared.demand.Demand.{Demand as DemandValue}
-use Rattle.pyver_markers.specs.Environments.{domain_of}
+use Rattle.pyver_markers.specs.Extents.{domain_of}
 use Rattle.pyver_findings.proofs.marked_conflicts.push_of_marker.Goals as goal
 
 pub returns : goal.returns

@@ -5,7 +5,7 @@ use Rattle.pyver_findings.specs.MarkedConflicts.{FindsOfEach, FindsOfFirsts, Fin
 use Rattle.pyver_findings.specs.Views.{AddsFound, demand_of, demands_of_sets, found_sets_of}
 use Rattle.pyver_requirements.specs.declared.cause.Cause.TheVariants as cause
 use Rattle.pyver_findings.specs.declared.demand.Demand.{Demand as DemandValue}
-use Rattle.pyver_markers.specs.Environments.{domain_of}
+use Rattle.pyver_markers.specs.Extents.{domain_of}
 use Rattle.pyver_findings.proofs.marked_conflicts.push_of_markers.Goals as goal
 
 pub returns-in_default : goal.returns-in_default

@@ -8,7 +8,7 @@ use Rattle.pyver_findings.specs.Demands.{IsSound}
 use Rattle.pyver_findings.specs.MarkedConflicts.{FindsOfFirsts, FindsOfName, few_first_lines}
 use Rattle.pyver_findings.specs.Views.{AddsFindings, AddsFound, demand_of}
 use Rattle.pyver_findings.specs.declared.demand.Demand.{Demand as DemandValue}
-use Rattle.pyver_markers.specs.Environments.{domain_of}
+use Rattle.pyver_markers.specs.Extents.{domain_of}
 use Rattle.pyver_findings.proofs.marked_conflicts.push_of_name.Goals as goal
 
 pub push_of_all-requires : goal.push_of_all-requires

@@ -8,7 +8,7 @@ use Rattle.pyver_findings.specs.Demands.{IsSound}
 use Rattle.pyver_findings.specs.MarkedConflicts.{FindsDecided, under_any}
 use Rattle.pyver_findings.specs.Views.{AddsFound, demand_of}
 use Rattle.pyver_findings.specs.declared.demand.Demand.{Demand as DemandValue}
-use Rattle.pyver_markers.specs.Environments.{domain_of}
+use Rattle.pyver_markers.specs.Extents.{domain_of}
 use Rattle.pyver_findings.proofs.marked_conflicts.push_of_set.Goals as goal
 
 pub returns-then-not-branch : goal.returns-then-not-branch

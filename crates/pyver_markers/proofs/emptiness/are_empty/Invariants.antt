@@ -1,7 +1,8 @@
 use Rattle.std.proofs.Common.{◌≡◌, false, length}
 use Rattle.pyver_markers.specs.Boxes.{in_boxes}
 use Rattle.pyver_markers.specs.Conditions.{IsEnvironment}
-use Rattle.pyver_markers.specs.Environments.{Environment, domain_of}
+use Rattle.pyver_markers.specs.Environments.{Environment}
+use Rattle.pyver_markers.specs.Extents.{domain_of}
 use Rattle.pyver_markers.proofs.emptiness.are_empty.Given as goal
 
 abbrev pub invariant-loop-rest : goal.invariant-loop-rest

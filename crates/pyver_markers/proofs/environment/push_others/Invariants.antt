@@ -1,6 +1,7 @@
 use Rattle.std.proofs.Common.{◌≡◌, ◌++◌, codes, drop, map}
 use Rattle.std.specs.List.{flat_map}
-use Rattle.pyver_markers.specs.Environments.{assignment_of, Assignment, assignment_text}
+use Rattle.pyver_markers.specs.Extents.{assignment_of}
+use Rattle.pyver_markers.specs.Environments.{Assignment, assignment_text}
 use Rattle.pyver_markers.proofs.environment.push_others.Given as goal
 
 abbrev pub invariant-loop-variable : goal.invariant-loop-variable

@@ -1,7 +1,7 @@
 use Rattle.std.proofs.Common.{◌≡◌, [], length}
 use Rattle.std.specs.Prelude.{map}
 use Rattle.pyver_requirements.specs.MarkerViews.{step_of}
-use Rattle.pyver_markers.specs.Environments.{environment_of}
+use Rattle.pyver_markers.specs.Extents.{environment_of}
 use Rattle.pyver_markers.specs.MarkerComparisons.{compare}
 use Rattle.pyver_markers.specs.MarkerValues.{after_steps, both_hold, either_holds}
 use Rattle.pyver_markers.proofs.environment_marker.take_steps.Given as goal

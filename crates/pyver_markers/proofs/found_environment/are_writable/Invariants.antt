@@ -1,8 +1,7 @@
 use Rattle.std.proofs.Common.{◌≡◌, length}
 use Rattle.std.specs.List.{list_all}
 use Rattle.std.specs.Prelude.{map}
-use Rattle.pyver_markers.specs.Environments.{assignment_of}
-use Rattle.pyver_markers.specs.MarkerValues.{is_writable}
+use Rattle.pyver_markers.specs.Extents.{assignment_of, is_writable}
 use Rattle.pyver_markers.proofs.found_environment.are_writable.Given as goal
 
 abbrev pub invariant-loop-rest : goal.invariant-loop-rest

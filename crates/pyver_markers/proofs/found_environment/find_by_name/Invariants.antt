@@ -1,5 +1,5 @@
 use Rattle.std.proofs.Common.{◌≡◌, length}
-use Rattle.pyver_markers.specs.Environments.{found_environment}
+use Rattle.pyver_markers.specs.Extents.{found_environment}
 use Rattle.pyver_markers.proofs.found_environment.find_by_name.Given as goal
 
 abbrev pub invariant-loop-rest : goal.invariant-loop-rest

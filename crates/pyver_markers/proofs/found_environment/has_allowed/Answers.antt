@@ -1,7 +1,7 @@
 use Rattle.std.proofs.Common.{◌∙◌, sym}
 use Rattle.std.specs.Prelude.{option_map}
 use Rattle.pyver_markers.proofs.FoundEnvironments.{allowed_there}
-use Rattle.pyver_markers.specs.Environments.{found_environment}
+use Rattle.pyver_markers.specs.Extents.{found_environment}
 use Rattle.pyver_markers.proofs.found_environment.has_allowed.Goals as goal
 
 pub returns : goal.returns

@@ -1,5 +1,5 @@
 use Rattle.pyver_markers.proofs.FoundEnvironments.{python_there}
-use Rattle.pyver_markers.specs.Environments.{found_environment}
+use Rattle.pyver_markers.specs.Extents.{found_environment}
 use Rattle.pyver_markers.proofs.found_environment.has_python.Goals as goal
 
 pub returns : goal.returns

@@ -1,6 +1,7 @@
 use Rattle.std.proofs.Common.{◌∙◌, sym}
 use Rattle.pyver_markers.proofs.FoundEnvironments.{text_there}
-use Rattle.pyver_markers.specs.Environments.{found_environment, system}
+use Rattle.pyver_markers.specs.Extents.{found_environment}
+use Rattle.pyver_markers.specs.Environments.{system}
 use Rattle.pyver_markers.proofs.found_environment.has_system.Goals as goal
 
 pub returns : goal.returns

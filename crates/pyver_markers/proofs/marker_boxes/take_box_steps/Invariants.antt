@@ -2,7 +2,7 @@ use Rattle.std.proofs.Common.{◌≡◌, [], length, not}
 use Rattle.std.specs.Prelude.{map}
 use Rattle.pyver_requirements.specs.MarkerViews.{step_of}
 use Rattle.pyver_markers.specs.Boxes.{comparison_boxes, join_boxes}
-use Rattle.pyver_markers.specs.Environments.{boxes_of}
+use Rattle.pyver_markers.specs.Extents.{boxes_of}
 use Rattle.pyver_markers.specs.MarkerValues.{after_steps}
 use Rattle.pyver_markers.proofs.marker_boxes.take_box_steps.Given as goal
 

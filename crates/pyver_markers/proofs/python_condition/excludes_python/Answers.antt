@@ -1,6 +1,6 @@
 use Rattle.std.specs.Prelude.{map, option_map}
 use Rattle.pyver_markers.proofs.ShortVersions.{no_python}
-use Rattle.pyver_markers.specs.Environments.{condition_of}
+use Rattle.pyver_markers.specs.Extents.{condition_of}
 use Rattle.pyver_markers.proofs.python_condition.excludes_python.Goals as goal
 
 pub returns : goal.returns

@@ -1,6 +1,6 @@
 use Rattle.std.specs.Prelude.{map}
 use Rattle.pyver_markers.proofs.ShortVersions.{one_more_narrowed}
-use Rattle.pyver_markers.specs.Environments.{condition_of}
+use Rattle.pyver_markers.specs.Extents.{condition_of}
 use Rattle.pyver_markers.proofs.python_condition.narrow_by_all_short.Goals as goal
 
 pub loop-rest-preserved : goal.loop-rest-preserved

@@ -1,7 +1,7 @@
 use Rattle.std.proofs.Common.{length}
 use Rattle.std.specs.Prelude.{map}
 use Rattle.pyver_markers.proofs.ShortVersions.{NarrowsSoFar}
-use Rattle.pyver_markers.specs.Environments.{condition_of}
+use Rattle.pyver_markers.specs.Extents.{condition_of}
 use Rattle.pyver_markers.proofs.python_condition.narrow_by_all_short.Given as goal
 
 abbrev pub invariant-loop-rest : goal.invariant-loop-rest

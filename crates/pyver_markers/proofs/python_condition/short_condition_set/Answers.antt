@@ -1,7 +1,7 @@
 use Rattle.std.proofs.Common.{subst}
 use Rattle.std.specs.Prelude.{IfSome}
 use Rattle.pyver_markers.proofs.ShortVersions.{holds_short_met, holds_short_unmet}
-use Rattle.pyver_markers.specs.Environments.{condition_of}
+use Rattle.pyver_markers.specs.Extents.{condition_of}
 use Rattle.pyver_markers.specs.Conditions.{ComparesAs, HoldsShortMatchesOf, IsOperand}
 use Rattle.pyver_markers.proofs.python_condition.short_condition_set.Goals as goal
 

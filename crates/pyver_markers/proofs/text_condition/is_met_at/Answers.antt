@@ -1,6 +1,6 @@
 use Rattle.std.proofs.Common.{◌∙◌, ◌||◌, ap, is_none}
 use Rattle.pyver_markers.proofs.Texts.{Alone, met_beside}
-use Rattle.pyver_markers.specs.Environments.{condition_of}
+use Rattle.pyver_markers.specs.Extents.{condition_of}
 use Rattle.pyver_markers.specs.Boxes.{is_met, meets}
 use Rattle.pyver_markers.proofs.text_condition.is_met_at.Goals as goal
 

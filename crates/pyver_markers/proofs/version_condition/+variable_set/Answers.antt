@@ -3,7 +3,7 @@ use Rattle.std.proofs.lemmas.List.{take-append-drop}
 use Rattle.std.proofs.lemmas.Result.{IfOk-weaker}
 use Rattle.pyver_markers.proofs.Versions.{both_hold, is_denoted, one_holds}
 use Rattle.pyver_markers.specs.Conditions.{HoldsVersionsOf, Narrows}
-use Rattle.pyver_markers.specs.Environments.{condition_of}
+use Rattle.pyver_markers.specs.Extents.{condition_of}
 use Rattle.pyver_markers.proofs.version_condition.+variable_set.Goals as goal
 
 pub returns-then-conditions-gt1 : goal.returns-then-conditions-gt1

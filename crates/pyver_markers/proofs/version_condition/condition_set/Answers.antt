@@ -1,7 +1,7 @@
 use Rattle.std.proofs.Common.{subst}
 use Rattle.std.specs.Prelude.{IfSome}
 use Rattle.pyver_markers.proofs.Versions.{holds_met, holds_unmet}
-use Rattle.pyver_markers.specs.Environments.{condition_of}
+use Rattle.pyver_markers.specs.Extents.{condition_of}
 use Rattle.pyver_markers.specs.Conditions.{ComparesAs, HoldsMatchesOf, IsOperand}
 use Rattle.pyver_markers.proofs.version_condition.condition_set.Goals as goal
 

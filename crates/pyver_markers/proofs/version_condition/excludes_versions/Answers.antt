@@ -1,6 +1,6 @@
 use Rattle.std.specs.Prelude.{map}
 use Rattle.pyver_markers.proofs.Versions.{none_met}
-use Rattle.pyver_markers.specs.Environments.{condition_of}
+use Rattle.pyver_markers.specs.Extents.{condition_of}
 use Rattle.pyver_markers.proofs.version_condition.excludes_versions.Goals as goal
 
 pub returns : goal.returns
