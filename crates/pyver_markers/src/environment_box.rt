@@ -32,7 +32,7 @@ pub struct EnvironmentBox<'a> {
 impl<'a> Model for EnvironmentBox<'a> {
     ghost use Rattle.std.specs.Prelude.{List, map};
     ghost use Rattle.pyver_markers.specs.Boxes.{Condition};
-    ghost use Rattle.pyver_markers.specs.Environments.{condition_of};
+    ghost use Rattle.pyver_markers.specs.Extents.{condition_of};
 
     ghost Value = { List Condition };
 
