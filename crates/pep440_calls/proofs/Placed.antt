@@ -1,7 +1,8 @@
 -- Many texts, read one after another: versions with their places, marks, as they are written; and sort keys in the order of their first bytes, and then of all.
 use Rattle.std.proofs.Common.{Bor, ◌≡◌, ◌<◌, ◌≤◌, ◌+◌, ◌∙◌, drop, set, ℕ, zero, suc, Some, List, [], ◌∷◌, ◌++◌, length, get_or, take, map, refl, sym, ap, subst, arith, ◌⊎◌, ◌||◌, Bool, true, false, Option, inl, inr, not, append-nil, append_assoc, String, Global, Ok, Err, Result, string_bytes, ◌-◌, ◌*◌, ◌&&◌, None, cond}
+use Rattle.std.proofs.Math.ListN.{drop_of_length-le}
 use Rattle.std.proofs.Math.Seq.{drop-append_seam, drop-cons, set-append_seam, take-append_seam}
-use Rattle.std.proofs.lemmas.List.{drop-drop, get_or_default, length-drop, length-map, length-take-le, map-append, take-append-drop, take_more, length-append, get_or-drop, get_or-map}
+use Rattle.std.proofs.lemmas.List.{drop-drop, get_or_default, length-drop, length-map, length-take-le, map-append, take-append-drop, take_more, length-append, get_or-map}
 use Rattle.std.proofs.lemmas.List.Elements.{All-from_recursion, recursion_from_All}
 use Rattle.std.proofs.lemmas.Slice.Zip.{all_zipped_more}
 use Rattle.std.specs.List.{All, AllZip, flat_map, AllByRecursion, enumerate_from, filter}
@@ -38,15 +39,22 @@ use Rattle.pep440_version.specs.declared.change.Change.{Change}
 use Rattle.pep440_version.specs.declared.change.ChangeError.{ChangeError}
 use Rattle.pep440_calls.specs.Explanations.{IsErrorOf}
 use Rattle.pep440_calls.specs.declared.edits.EditError.{EditError}
-use Rattle.std.proofs.lemmas.List.Sorted.{All-permutation, IsPermutation-map}
+use Rattle.std.proofs.lemmas.List.Sorted.{All-permutation, IsPermutation-map, ranks_by, sum_by-IsPermutation, ties_stay_sorted}
 use Rattle.std.proofs.lemmas.Cmp.{nat_cmp_total, then_total}
 use Rattle.std.specs.Cmp.{IsTotalOrder, on_total}
 use Rattle.std.specs.Cmp.Lexicographic.{nat_list_cmp_total, slice_cmp}
-use Rattle.std.specs.List.Sorted.{IsPermutation, IsStable, IsSortedBy, IsStableBy, ties}
+use Rattle.std.specs.List.Sorted.{IsPermutation, IsSortedBy, ties}
 use Rattle.std.specs.Slice.Scan.{big_endian}
+use Rattle.std.specs.FinMap.{nat_cmp-IsAntisymmetric}
+use Rattle.std.proofs.lemmas.List.Sums.{sum_by-cons}
+use Rattle.std.specs.List.{sum_by}
+use Rattle.std.specs.Prelude.{replicate}
+use Rattle.pep440_rs.proofs.Arranging.Arranged.{same_by_ties}
+use Rattle.pep440_rs.proofs.Arranging.Sorting.{sorted, sorted_same, sorted_stable, sorted_up}
+use Rattle.pep440_rs.specs.Arrangement.{ArrangesBy}
 use Rattle.pep440_compiled.proofs.Fronts.{itself, keyed}
-use Rattle.pep440_keys.proofs.Order.{keys_in_order}
-use Rattle.pep440_keys.specs.SortKeys.{key_bytes}
+use Rattle.pep440_keys.proofs.Order.{followed_in_order, same_keys}
+use Rattle.pep440_keys.specs.SortKeys.{IsKeyed, key_bytes}
 use Rattle.pep440_version.proofs.Ordering.Comparisons.{then_assoc}
 use Rattle.pep440_version.proofs.Words.Blocks.{is_below, nat_cmp_block}
 use Rattle.pep440_version.specs.Key.KeyLaws.{record_total}
@@ -369,82 +377,113 @@ pub no_edit_told : (text : List ℕ) (words : List (List ℕ)) (t : String Globa
     → string_bytes t ≡ change_error_text why_not → TellsEdit text words (Ok t)
 no_edit_told text words t e why_not is why told = inr (error.Change why_not, subst (EditFaults text words) is why, told)
 
--- ---- what a filter keeps
-
-filter_mapped : {E G : Type 0} (g : E → G) (p : G → Bool) (xs : List E) → filter p (map g xs) ≡ map g (filter (λ e. p (g e)) xs)
-filter_mapped g p [] = refl
-filter_mapped {E} {G} g p (x ∷ xs) = go (p (g x)) (filter p (map g xs)) (filter (λ e. p (g e)) xs) (filter_mapped g p xs)
-  where
-    go : (b : Bool) (l : List G) (m : List E) → l ≡ map g m → cond b (g x ∷ l) l ≡ map g (cond b (x ∷ m) m)
-    go true l m e = ap (λ k. g x ∷ k) e
-    go false l m e = e
-
-filter_same : {E : Type 0} (p q : E → Bool) (xs : List E) → AllByRecursion (λ e. p e ≡ q e) xs → filter p xs ≡ filter q xs
-filter_same p q [] all = refl
-filter_same p q (x ∷ xs) all = let more = filter_same p q xs all.1 in λ i. cond (all.0 i) (x ∷ more i) (more i)
-
-filter_none : {E : Type 0} (p : E → Bool) (xs : List E) → AllByRecursion (λ e. p e ≡ false) xs → filter p xs ≡ []
-filter_none p [] all = refl
-filter_none p (x ∷ xs) all = ap (λ b. cond b (x ∷ filter p xs) (filter p xs)) all.0 ∙ filter_none p xs all.1
-
--- ---- what ties
+-- ---- positions and versions, sorted by version and then by position
 
 tied : (o p : Ordering) → p ≡ ordering_reverse o → not (is_lt o) && not (is_lt p) ≡ true → o ≡ Equal
 tied Less p r e = cc e
 tied Equal p r e = refl
 tied Greater p r e = let less : not (is_lt p) ≡ false = ap (λ q. not (is_lt q)) r in cc (e, less)
 
-module _ {E G : Type 0} (g : E → G) (below : E → E → Bool) (order : G → G → Ordering) (total : IsTotalOrder order) (P : E → Type 0) (same : (x y : E) → P x → P y → below x y ≡ is_lt (order (g x) (g y))) where
-  abbrev lt : G → G → Bool
-  lt x y = is_lt (order x y)
+rises_mapped : {E G : Type 0} (g : E → G) (below : E → E → Bool) (order : G → G → Ordering) (P : E → Type 0) → ((x y : E) → P x → P y → below x y ≡ is_lt (order (g x) (g y)))
+    → (xs : List E) → All P xs → IsSortedBy below xs → IsSortedBy (λ x y. is_lt (order x y)) (map g xs)
+rises_mapped g below order P same [] all up k d le inside = absurd (omega (arith, inside))
+rises_mapped g below order P same (x ∷ xs) all up k d le inside =
+    let long : length (map g (x ∷ xs)) ≡ length (x ∷ xs) = length-map (x ∷ xs) g in
+    let next : k + 1 < length (x ∷ xs) = omega (arith, inside, long) in
+    let this : k < length (x ∷ xs) = omega (arith, inside, long) in
+    (λ i. is_lt (order (get_or-map g (x ∷ xs) (k + 1) x d next i) (get_or-map g (x ∷ xs) k x d this i)))
+    ∙ sym (same (get_or (x ∷ xs) (k + 1) x) (get_or (x ∷ xs) k x) (all (k + 1) x next) (all k x this))
+    ∙ up k x le next
 
-  rises_mapped : (xs : List E) → All P xs → IsSortedBy below xs → IsSortedBy lt (map g xs)
-  rises_mapped [] all up k d le inside = absurd (omega (arith, inside))
-  rises_mapped (x ∷ xs) all up k d le inside =
-      let long : length (map g (x ∷ xs)) ≡ length (x ∷ xs) = length-map (x ∷ xs) g in
-      let next : k + 1 < length (x ∷ xs) = omega (arith, inside, long) in
-      let this : k < length (x ∷ xs) = omega (arith, inside, long) in
-      (λ i. lt (get_or-map g (x ∷ xs) (k + 1) x d next i) (get_or-map g (x ∷ xs) k x d this i))
-      ∙ sym (same (get_or (x ∷ xs) (k + 1) x) (get_or (x ∷ xs) k x) (all (k + 1) x next) (all k x this))
-      ∙ up k x le next
+abbrev by_version : ℕ × Record → ℕ × Record → Ordering
+by_version = on (λ (p : ℕ × Record). p.1) record_cmp
 
-  ties_same : (x y z : G) → order x y ≡ Equal → ties lt x z ≡ ties lt y z
-  ties_same x y z e =
-      let front = total.congr x y z e in
-      let back : order z x ≡ order z y = total.antisymm z x ∙ ap ordering_reverse front ∙ sym (total.antisymm z y) in
-      λ i. not (is_lt (front i)) && not (is_lt (back i))
+abbrev by_both : ℕ × Record → ℕ × Record → Ordering
+by_both p q = ordering_then (record_cmp p.1 q.1) (nat_cmp p.0 q.0)
 
-  ties_below : (e f : E) → P e → P f → ties lt (g e) (g f) ≡ ties below e f
-  ties_below e f p q = sym (λ i. not (same e f p q i) && not (same f e q p i))
+abbrev below_version : ℕ × Record → ℕ × Record → Bool
+below_version p q = is_lt (by_version p q)
 
-  -- some element ties with it, or none
-  find_tie : (x : G) (xs : List E) → AllByRecursion P xs → ((e : E) × P e × (ties lt x (g e) ≡ true)) ⊎ AllByRecursion (λ e. ties lt x (g e) ≡ false) xs
-  find_tie x [] all = inr tt
-  find_tie x (e ∷ xs) all = go (ties lt x (g e)) refl (find_tie x xs all.1)
-    where
-      go : (b : Bool) → ties lt x (g e) ≡ b → ((f : E) × P f × (ties lt x (g f) ≡ true)) ⊎ AllByRecursion (λ f. ties lt x (g f) ≡ false) xs
-          → ((f : E) × P f × (ties lt x (g f) ≡ true)) ⊎ AllByRecursion (λ f. ties lt x (g f) ≡ false) (e ∷ xs)
-      go true is rest = inl (e, all.0, is)
-      go false is (inl found) = inl found
-      go false is (inr none) = inr (is, none)
+abbrev below_both : ℕ × Record → ℕ × Record → Bool
+below_both p q = is_lt (by_both p q)
 
-  module _ (xs ys : List E) (all : All P xs) (moved : IsPermutation xs ys) (stable : IsStableBy below xs ys) where
-    all_after : All P ys
-    all_after = All-permutation P xs ys moved all
+by_both_total : IsTotalOrder by_both
+by_both_total = then_total (on_total (λ (p : ℕ × Record). p.1) record_total) (on_total (λ (p : ℕ × Record). p.0) nat_cmp_total)
 
-    keeps : (x : G) → ((e : E) × P e × (ties lt x (g e) ≡ true)) ⊎ AllByRecursion (λ e. ties lt x (g e) ≡ false) xs → filter (λ e. ties lt x (g e)) ys ≡ filter (λ e. ties lt x (g e)) xs
-    keeps x (inl (e, p, is)) =
-        let equal : order x (g e) ≡ Equal = tied (order x (g e)) (order (g e) x) (total.antisymm (g e) x) is in
-        let agree : (f : E) → P f → ties lt x (g f) ≡ ties below e f = λ f q. ties_same x (g e) (g f) equal ∙ ties_below e f p q in
-        filter_same (λ f. ties lt x (g f)) (ties below e) ys (recursion_from_All (λ f. ties lt x (g f) ≡ ties below e f) ys (λ k d inside. agree _ (all_after k d inside)))
-        ∙ stable e
-        ∙ sym (filter_same (λ f. ties lt x (g f)) (ties below e) xs (recursion_from_All (λ f. ties lt x (g f) ≡ ties below e f) xs (λ k d inside. agree _ (all k d inside))))
-    keeps x (inr none) =
-        let after = All-permutation (λ f. ties lt x (g f) ≡ false) xs ys moved (All-from_recursion (λ f. ties lt x (g f) ≡ false) xs none) in
-        filter_none (λ f. ties lt x (g f)) ys (recursion_from_All (λ f. ties lt x (g f) ≡ false) ys after) ∙ sym (filter_none (λ f. ties lt x (g f)) xs none)
+-- the next pair is not below one, if it is not by version, nor by position where the versions tie
+both_rise : (o p n : Ordering) → p ≡ ordering_reverse o → is_lt o ≡ false → (not (is_lt p) && not (is_lt o) ≡ true → is_lt n ≡ false) → is_lt (ordering_then o n) ≡ false
+both_rise Less p n r e h = cc e
+both_rise Equal p n r e h = h (ap (λ q. not (is_lt q) && not (is_lt Equal)) r)
+both_rise Greater p n r e h = refl
 
-    stable_mapped : IsStableBy lt (map g xs) (map g ys)
-    stable_mapped x = filter_mapped g (ties lt x) ys ∙ ap (map g) (keeps x (find_tie x xs (recursion_from_All P xs all))) ∙ sym (filter_mapped g (ties lt x) xs)
+last_tied : (o n : Ordering) → ordering_then o n ≡ Equal → n ≡ Equal
+last_tied Less n e = cc e
+last_tied Equal n e = e
+last_tied Greater n e = cc e
+
+enumerated_length : (n : ℕ) (versions : List Record) → length (enumerate_from n versions) ≡ length versions
+enumerated_length n [] = refl
+enumerated_length n (v ∷ versions) = ap suc (enumerated_length (n + 1) versions)
+
+position_at : (n : ℕ) (versions : List Record) (k : ℕ) (d : ℕ × Record) → k < length versions → (get_or (enumerate_from n versions) k d).0 ≡ n + k
+position_at n [] k d inside = absurd (omega (arith, inside))
+position_at n (v ∷ versions) zero d inside = omega arith
+position_at n (v ∷ versions) (suc k) d inside = let later = position_at (n + 1) versions k d (omega (arith, inside)) in omega (arith, later)
+
+positions_rise : (versions : List Record) → IsSortedBy (λ (p q : ℕ × Record). is_lt (nat_cmp p.0 q.0)) (enumerate_from 0 versions)
+positions_rise versions k d low high =
+    let long = enumerated_length 0 versions in
+    let next : k + 1 < length versions = omega (arith, high, long) in
+    let this : k < length versions = omega (arith, next) in
+    (λ i. is_lt (nat_cmp (position_at 0 versions (k + 1) d next i) (position_at 0 versions k d this i))) ∙ ap is_lt (blocks.is_above (0 + (k + 1)) (0 + k) (omega arith))
+
+-- how many of a list pass a test
+abbrev passing : {X : Type 0} → (X → Bool) → X → ℕ
+passing p x = cond (p x) 1 0
+
+-- what passes a test that only one passes
+alike : {X : Type 0} (p : X → Bool) (e : X) (xs : List X) → AllByRecursion (λ x. p x ≡ true → x ≡ e) xs → filter p xs ≡ replicate (sum_by (passing p) xs) e
+alike p e [] all = refl
+alike {X} p e (x ∷ xs) all = go (p x) all.0 (alike p e xs all.1) ∙ ap (λ n. replicate n e) (sym (sum_by-cons (passing p) x xs))
+  where
+    go : (b : Bool) → (b ≡ true → x ≡ e) → filter p xs ≡ replicate (sum_by (passing p) xs) e → cond b (x ∷ filter p xs) (filter p xs) ≡ replicate (cond b 1 0 + sum_by (passing p) xs) e
+    go true same rest = let more : suc (sum_by (passing p) xs) ≡ 1 + sum_by (passing p) xs = omega arith in (λ i. same refl i ∷ rest i) ∙ ap (λ n. replicate n e) more
+    go false same rest = let none : sum_by (passing p) xs ≡ 0 + sum_by (passing p) xs = omega arith in rest ∙ ap (λ n. replicate n e) none
+
+alike_moved : {X : Type 0} (p : X → Bool) (e : X) (xs ys : List X) → IsPermutation xs ys → AllByRecursion (λ x. p x ≡ true → x ≡ e) xs → AllByRecursion (λ x. p x ≡ true → x ≡ e) ys → filter p ys ≡ filter p xs
+alike_moved p e xs ys moved all after = alike p e ys after ∙ ap (λ n. replicate n e) (sum_by-IsPermutation (passing p) xs ys moved) ∙ sym (alike p e xs all)
+
+-- what is sorted by version and then by position keeps the order of versions that tie
+module _ (versions : List Record) (version_at : ℕ → Record) where
+  abbrev given : List (ℕ × Record)
+  given = enumerate_from 0 versions
+
+  abbrev in_turn : List (ℕ × Record)
+  in_turn = sorted below_version given
+
+  turn_rises : IsSortedBy below_both in_turn
+  turn_rises k d low high =
+      let a = get_or in_turn k d in
+      let b = get_or in_turn (k + 1) d in
+      let weak = ranks_by record_total (λ (p : ℕ × Record). p.1) in
+      both_rise (record_cmp b.1 a.1) (record_cmp a.1 b.1) (nat_cmp b.0 a.0) (record_total.antisymm a.1 b.1) (sorted_up below_version weak given k d low high)
+      (ties_stay_sorted (λ (p q : ℕ × Record). is_lt (nat_cmp p.0 q.0)) below_version (ranks_by nat_cmp_total (λ (p : ℕ × Record). p.0)) weak given in_turn (positions_rise versions) (sorted_stable below_version weak given) k d high)
+
+  only_one : (z : ℕ × Record) (xs : List (ℕ × Record)) → All (λ (x : ℕ × Record). x.1 ≡ version_at x.0) xs → AllByRecursion (λ x. ties below_both z x ≡ true → x ≡ (z.0, version_at z.0)) xs
+  only_one z xs all = recursion_from_All (λ x. ties below_both z x ≡ true → x ≡ (z.0, version_at z.0)) xs (λ k d inside tie.
+      let x = get_or xs k d in
+      let same : z.0 ≡ x.0 = nat_cmp-IsAntisymmetric z.0 x.0 (last_tied (record_cmp z.1 x.1) (nat_cmp z.0 x.0) (tied (by_both z x) (by_both x z) (by_both_total.antisymm x z) tie)) in
+      λ i. (sym same i, (all k d inside ∙ ap version_at (sym same)) i))
+
+  arranged_by_both : (list : List (ℕ × Record)) → All (λ (x : ℕ × Record). x.1 ≡ version_at x.0) given → IsPermutation given list → IsSortedBy below_both list → ArrangesBy by_version given list
+  arranged_by_both list its moved rises =
+      let weak = ranks_by record_total (λ (p : ℕ × Record). p.1) in
+      let after = All-permutation (λ (x : ℕ × Record). x.1 ≡ version_at x.0) in
+      let turned = sorted_same below_version given in
+      let same : in_turn ≡ list = same_by_ties below_both (ranks_by by_both_total (λ (p : ℕ × Record). p)) in_turn list turn_rises rises (λ z.
+      alike_moved (ties below_both z) (z.0, version_at z.0) given in_turn turned (only_one z given its) (only_one z in_turn (after given in_turn turned its))
+      ∙ sym (alike_moved (ties below_both z) (z.0, version_at z.0) given list moved (only_one z given its) (only_one z list (after given list moved its)))) in
+      subst (λ l. ArrangesBy by_version given l) same (record { same = turned; rises = sorted_up below_version weak given; stable = sorted_stable below_version weak given })
 
 -- ---- the first bytes, with zeros for those that lack
 
@@ -470,71 +509,50 @@ padded_whole zero xs few = refl
 padded_whole (suc count) [] few = absurd (omega (arith, few))
 padded_whole (suc count) (x ∷ xs) few = ap (λ l. x ∷ l) (padded_whole count xs (omega (arith, few)))
 
-pub four_padded : (xs : List ℕ) → padded 4 xs ≡ get_or xs 0 0 ∷ get_or xs 1 0 ∷ get_or xs 2 0 ∷ get_or xs 3 0 ∷ []
-four_padded [] = refl
-four_padded (a ∷ []) = refl
-four_padded (a ∷ b ∷ []) = refl
-four_padded (a ∷ b ∷ c ∷ []) = refl
-four_padded (a ∷ b ∷ c ∷ d ∷ xs) = refl
+zeros_only : (count : ℕ) → padded count [] ≡ replicate count 0
+zeros_only zero = refl
+zeros_only (suc count) = ap (λ l. 0 ∷ l) (zeros_only count)
 
-pub eight_padded : (xs : List ℕ)
-    → padded 8 xs ≡ get_or xs 0 0 ∷ get_or xs 1 0 ∷ get_or xs 2 0 ∷ get_or xs 3 0 ∷ get_or xs 4 0 ∷ get_or xs 5 0 ∷ get_or xs 6 0 ∷ get_or xs 7 0 ∷ []
-eight_padded [] = refl
-eight_padded (a ∷ []) = refl
-eight_padded (a ∷ b ∷ []) = refl
-eight_padded (a ∷ b ∷ c ∷ []) = refl
-eight_padded (a ∷ b ∷ c ∷ d ∷ []) = refl
-eight_padded (a ∷ b ∷ c ∷ d ∷ e ∷ []) = refl
-eight_padded (a ∷ b ∷ c ∷ d ∷ e ∷ f ∷ []) = refl
-eight_padded (a ∷ b ∷ c ∷ d ∷ e ∷ f ∷ g ∷ []) = refl
-eight_padded (a ∷ b ∷ c ∷ d ∷ e ∷ f ∷ g ∷ h ∷ xs) = refl
+-- bytes of which some may lack, and zeros for those
+padded_few : (count : ℕ) (xs : List ℕ) → length xs ≤ count → xs ++ drop (length xs) (replicate count 0) ≡ padded count xs
+padded_few zero [] few = refl
+padded_few zero (x ∷ xs) few = absurd (omega (arith, few))
+padded_few (suc count) [] few = sym (zeros_only (suc count))
+padded_few (suc count) (x ∷ xs) few = ap (λ l. x ∷ l) (padded_few count xs (omega (arith, few)))
 
--- zeros are above nothing
-zeros_below : (count : ℕ) (ys : List ℕ) → ordering_then (slice_cmp nat_cmp (padded count []) (padded count ys)) Less ≡ Less
-zeros_below zero ys = refl
-zeros_below (suc count) [] = ap (λ o. ordering_then o Less) (itself (padded (suc count) []))
-zeros_below (suc count) (zero ∷ ys) = zeros_below count ys
-zeros_below (suc count) (suc y ∷ ys) = ap (λ o. ordering_then (ordering_then o (slice_cmp nat_cmp (padded count []) (padded count ys))) Less) (is_below 0 (suc y) (omega arith))
+take_padded : (count : ℕ) (xs : List ℕ) → take count (padded count xs) ≡ padded count xs
+take_padded zero xs = refl
+take_padded (suc count) [] = ap (λ l. 0 ∷ l) (take_padded count [])
+take_padded (suc count) (x ∷ xs) = ap (λ l. x ∷ l) (take_padded count xs)
 
-above_zeros : (count : ℕ) (xs : List ℕ) → ordering_then (slice_cmp nat_cmp (padded count xs) (padded count [])) Greater ≡ Greater
-above_zeros zero xs = refl
-above_zeros (suc count) [] = ap (λ o. ordering_then o Greater) (itself (padded (suc count) []))
-above_zeros (suc count) (zero ∷ xs) = above_zeros count xs
-above_zeros (suc count) (suc x ∷ xs) = ap (λ o. ordering_then (ordering_then o (slice_cmp nat_cmp (padded count xs) (padded count []))) Greater) (blocks.is_above (suc x) 0 (omega arith))
+-- a number that is read from eight zeros, of which the first were overwritten
+pub padded_read : (xs copied : List ℕ) → length xs ≤ 8 → copied ≡ xs → big_endian 0 (take 8 (copied ++ drop (length xs) (replicate 8 0))) ≡ big_endian 0 (padded 8 xs)
+padded_read xs copied few same = ap (λ l. big_endian 0 (take 8 l)) (ap (λ l. l ++ drop (length xs) (replicate 8 0)) same ∙ padded_few 8 xs few) ∙ ap (big_endian 0) (take_padded 8 xs)
 
-under : (o p s : Ordering) → ordering_then p s ≡ s → ordering_then (ordering_then o p) (ordering_then o s) ≡ ordering_then o s
-under Less p s e = refl
-under Equal p s e = e
-under Greater p s e = refl
+-- all bytes, and zeros for those that lack
+padded_then : (count : ℕ) (xs : List ℕ) → padded count xs ++ drop count xs ≡ xs ++ replicate (count - length xs) 0
+padded_then zero xs = let none : 0 ≡ 0 - length xs = omega arith in sym (append-nil xs) ∙ ap (λ n. xs ++ replicate n 0) none
+padded_then (suc count) [] = let all : suc count ≡ suc count - 0 = omega arith in append-nil (padded (suc count) []) ∙ zeros_only (suc count) ∙ ap (λ n. replicate n 0) all
+padded_then (suc count) (x ∷ xs) = let left : count - length xs ≡ suc count - length (x ∷ xs) = omega arith in ap (λ l. x ∷ l) (padded_then count xs) ∙ ap (λ n. x ∷ (xs ++ replicate n 0)) left
 
--- where they differ, so do the bytes
-padded_decide : (count : ℕ) (xs ys : List ℕ) → ordering_then (slice_cmp nat_cmp (padded count xs) (padded count ys)) (slice_cmp nat_cmp xs ys) ≡ slice_cmp nat_cmp xs ys
-padded_decide zero xs ys = refl
-padded_decide (suc count) [] [] = ap (λ o. ordering_then o Equal) (itself (padded (suc count) []))
-padded_decide (suc count) [] (y ∷ ys) = zeros_below (suc count) (y ∷ ys)
-padded_decide (suc count) (x ∷ xs) [] = above_zeros (suc count) (x ∷ xs)
-padded_decide (suc count) (x ∷ xs) (y ∷ ys) = under (nat_cmp x y) (slice_cmp nat_cmp (padded count xs) (padded count ys)) (slice_cmp nat_cmp xs ys) (padded_decide count xs ys)
+abbrev zeros : List ℕ → List ℕ
+zeros xs = replicate (8 - length xs) 0 ++ replicate (8 - length (drop 8 xs)) 0
 
-under_both : (o p q s : Ordering) → ordering_then p (ordering_then q s) ≡ s → ordering_then (ordering_then o p) (ordering_then q (ordering_then o s)) ≡ ordering_then o s
-under_both Less p q s e = refl
-under_both Equal p q s e = e
-under_both Greater p q s e = refl
+laid_out : (xs : List ℕ) → padded 8 xs ++ (padded 8 (drop 8 xs) ++ drop 16 xs) ≡ xs ++ zeros xs
+laid_out xs =
+    ap (λ l. padded 8 xs ++ (padded 8 (drop 8 xs) ++ l)) (sym (drop-drop 8 8 xs))
+    ∙ ap (λ l. padded 8 xs ++ l) (padded_then 8 (drop 8 xs))
+    ∙ sym (append_assoc (padded 8 xs) (drop 8 xs) (replicate (8 - length (drop 8 xs)) 0))
+    ∙ ap (λ l. l ++ replicate (8 - length (drop 8 xs)) 0) (padded_then 8 xs)
+    ∙ append_assoc xs (replicate (8 - length xs) 0) (replicate (8 - length (drop 8 xs)) 0)
 
-abbrev after : ℕ → List ℕ → List ℕ → Ordering
-after count xs ys = slice_cmp nat_cmp (padded 4 (drop count xs)) (padded 4 (drop count ys))
-
--- and those after them
-both_decide : (count : ℕ) (xs ys : List ℕ)
-    → ordering_then (slice_cmp nat_cmp (padded count xs) (padded count ys)) (ordering_then (after count xs ys) (slice_cmp nat_cmp xs ys)) ≡ slice_cmp nat_cmp xs ys
-both_decide zero xs ys = padded_decide 4 xs ys
-both_decide (suc count) [] [] =
-    ap (λ o. ordering_then o (ordering_then (after (suc count) [] []) Equal)) (itself (padded (suc count) [])) ∙ ap (λ o. ordering_then o Equal) (itself (padded 4 []))
-both_decide (suc count) [] (y ∷ ys) =
-    ap (λ o. ordering_then (slice_cmp nat_cmp (padded (suc count) []) (padded (suc count) (y ∷ ys))) o) (zeros_below 4 (drop count ys)) ∙ zeros_below (suc count) (y ∷ ys)
-both_decide (suc count) (x ∷ xs) [] =
-    ap (λ o. ordering_then (slice_cmp nat_cmp (padded (suc count) (x ∷ xs)) (padded (suc count) [])) o) (above_zeros 4 (drop count xs)) ∙ above_zeros (suc count) (x ∷ xs)
-both_decide (suc count) (x ∷ xs) (y ∷ ys) =
-    under_both (nat_cmp x y) (slice_cmp nat_cmp (padded count xs) (padded count ys)) (after count xs ys) (slice_cmp nat_cmp xs ys) (both_decide count xs ys)
+-- bytes before others decide, if they are as many
+first_decide : (xs ys us vs : List ℕ) → length xs ≡ length ys → slice_cmp nat_cmp (xs ++ us) (ys ++ vs) ≡ ordering_then (slice_cmp nat_cmp xs ys) (slice_cmp nat_cmp us vs)
+first_decide [] [] us vs same = refl
+first_decide [] (y ∷ ys) us vs same = absurd (omega (arith, same))
+first_decide (x ∷ xs) [] us vs same = absurd (omega (arith, same))
+first_decide (x ∷ xs) (y ∷ ys) us vs same =
+    ap (ordering_then (nat_cmp x y)) (first_decide xs ys us vs (omega (arith, same))) ∙ sym (then_assoc (nat_cmp x y) (slice_cmp nat_cmp xs ys) (slice_cmp nat_cmp us vs))
 
 -- ---- bytes as numbers
 
@@ -565,16 +583,6 @@ dropped_bytes (suc k) (x ∷ xs) b = dropped_bytes k xs (λ j. b (suc j))
 in_one : (count : ℕ) (xs ys : List ℕ) → AreBytes xs → AreBytes ys → nat_cmp (big_endian 0 (padded count xs)) (big_endian 0 (padded count ys)) ≡ slice_cmp nat_cmp (padded count xs) (padded count ys)
 in_one count xs ys b d = sym (read_all count 0 0 (padded count xs) (padded count ys) (padded_length count xs) (padded_length count ys) (padded_bytes count xs b) (padded_bytes count ys d))
 
--- a number that is read from the four bytes after the first eight
-pub four_read : (key : List ℕ) (a b c d : ℕ) → a ≡ get_or key 8 0 → b ≡ get_or key 9 0 → c ≡ get_or key 10 0 → d ≡ get_or key 11 0 → big_endian 0 (a ∷ b ∷ c ∷ d ∷ []) ≡ big_endian 0 (padded 4 (drop 8 key))
-four_read key a b c d e f g h =
-    (λ i. big_endian 0 ((e ∙ sym (get_or-drop 8 key 0 0)) i ∷ (f ∙ sym (get_or-drop 8 key 1 0)) i ∷ (g ∙ sym (get_or-drop 8 key 2 0)) i ∷ (h ∙ sym (get_or-drop 8 key 3 0)) i ∷ []))
-    ∙ ap (big_endian 0) (sym (four_padded (drop 8 key)))
-
-pub eight_read : (key : List ℕ) (a b c d e f g h : ℕ) → a ≡ get_or key 0 0 → b ≡ get_or key 1 0 → c ≡ get_or key 2 0 → d ≡ get_or key 3 0 → e ≡ get_or key 4 0 → f ≡ get_or key 5 0 → g ≡ get_or key 6 0
-    → h ≡ get_or key 7 0 → big_endian 0 (a ∷ b ∷ c ∷ d ∷ e ∷ f ∷ g ∷ h ∷ []) ≡ big_endian 0 (padded 8 key)
-eight_read key a b c d e f g h p q r s t u v w = (λ i. big_endian 0 (p i ∷ q i ∷ r i ∷ s i ∷ t i ∷ u i ∷ v i ∷ w i ∷ [])) ∙ ap (big_endian 0) (sym (eight_padded key))
-
 -- ---- entries
 
 abbrev bytes_of : Bor (List ℕ) → List ℕ
@@ -582,14 +590,35 @@ bytes_of s = s.now
 
 pub entry_total : (keys : List (List ℕ)) → IsTotalOrder (entry_cmp keys)
 entry_total keys =
-    then_total (on_total (λ (e : Entry). e.front) nat_cmp_total) (then_total (on_total (λ (e : Entry). e.next) nat_cmp_total) (on_total (λ (e : Entry). key_at keys e.position) nat_list_cmp_total))
+    then_total (on_total (λ (e : Entry). e.front) nat_cmp_total)
+    (then_total (on_total (λ (e : Entry). e.next) nat_cmp_total)
+    (then_total (on_total (λ (e : Entry). drop 16 (key_at keys e.position)) nat_list_cmp_total) (on_total (λ (e : Entry). e.position) nat_cmp_total)))
 
-by_keys : (a b : List ℕ) (i j : ℕ) (x y : Entry) → IsEntryOf i a x → IsEntryOf j b y
-    → ordering_then (nat_cmp x.front y.front) (ordering_then (nat_cmp x.next y.next) (slice_cmp nat_cmp a b)) ≡ slice_cmp nat_cmp a b
-by_keys a b i j x y h k =
+-- keys that have no more bytes tie
+pub none_follow : (a b : List ℕ) → length a ≤ 16 → length b ≤ 16 → Equal ≡ slice_cmp nat_cmp (drop 16 a) (drop 16 b)
+none_follow a b few as_few = λ i. slice_cmp nat_cmp (sym (drop_of_length-le a few) i) (sym (drop_of_length-le b as_few) i)
+
+-- keys whose versions tie have the same zeros behind them
+equal_zeros : (r q : Record) → IsKeyed r → IsKeyed q → (o : Ordering) → record_cmp r q ≡ o → ordering_then o (slice_cmp nat_cmp (zeros (key_bytes r)) (zeros (key_bytes q))) ≡ o
+equal_zeros r q h k Less is = refl
+equal_zeros r q h k Equal is = ap (λ l. slice_cmp nat_cmp (zeros l) (zeros (key_bytes q))) ((same_keys r q h k).1 is) ∙ itself (zeros (key_bytes q))
+equal_zeros r q h k Greater is = refl
+
+by_keys : (r q : Record) (i j : ℕ) (x y : Entry) → IsKeyed r → IsKeyed q → IsEntryOf i (key_bytes r) x → IsEntryOf j (key_bytes q) y
+    → ordering_then (nat_cmp x.front y.front) (ordering_then (nat_cmp x.next y.next) (slice_cmp nat_cmp (drop 16 (key_bytes r)) (drop 16 (key_bytes q)))) ≡ record_cmp r q
+by_keys r q i j x y keyed_r keyed_q h k =
+    let a : List ℕ = key_bytes r in
+    let b : List ℕ = key_bytes q in
+    let long : (xs ys : List ℕ) → length (padded 8 xs) ≡ length (padded 8 ys) = λ xs ys. padded_length 8 xs ∙ sym (padded_length 8 ys) in
     let fronts : nat_cmp x.front y.front ≡ slice_cmp nat_cmp (padded 8 a) (padded 8 b) = (λ l. nat_cmp (h.front l) (k.front l)) ∙ in_one 8 a b h.bytes k.bytes in
-    let nexts : nat_cmp x.next y.next ≡ after 8 a b = (λ l. nat_cmp (h.next l) (k.next l)) ∙ in_one 4 (drop 8 a) (drop 8 b) (dropped_bytes 8 a h.bytes) (dropped_bytes 8 b k.bytes) in
-    (λ l. ordering_then (fronts l) (ordering_then (nexts l) (slice_cmp nat_cmp a b))) ∙ both_decide 8 a b
+    let nexts : nat_cmp x.next y.next ≡ slice_cmp nat_cmp (padded 8 (drop 8 a)) (padded 8 (drop 8 b)) =
+    (λ l. nat_cmp (h.next l) (k.next l)) ∙ in_one 8 (drop 8 a) (drop 8 b) (dropped_bytes 8 a h.bytes) (dropped_bytes 8 b k.bytes) in
+    (λ l. ordering_then (fronts l) (ordering_then (nexts l) (slice_cmp nat_cmp (drop 16 a) (drop 16 b))))
+    ∙ ap (ordering_then (slice_cmp nat_cmp (padded 8 a) (padded 8 b))) (sym (first_decide (padded 8 (drop 8 a)) (padded 8 (drop 8 b)) (drop 16 a) (drop 16 b) (long (drop 8 a) (drop 8 b))))
+    ∙ sym (first_decide (padded 8 a) (padded 8 b) (padded 8 (drop 8 a) ++ drop 16 a) (padded 8 (drop 8 b) ++ drop 16 b) (long a b))
+    ∙ (λ l. slice_cmp nat_cmp (laid_out a l) (laid_out b l))
+    ∙ followed_in_order r q keyed_r keyed_q (zeros a) (zeros b)
+    ∙ equal_zeros r q keyed_r keyed_q (record_cmp r q) refl
 
 -- one more entry
 entries_push : (n : ℕ) (keys : List (List ℕ)) (entries : List Entry) (key : List ℕ) (e : Entry) → IsEntryOf (n + length keys) key e → HasEntries n keys entries → HasEntries n (keys ++ key ∷ []) (entries ++ e ∷ [])
@@ -650,46 +679,46 @@ module _ (versions : List Record) where
         ),
       )
 
-  same_order : (x y : Entry) → HasVersion x → HasVersion y → is_lt (entry_cmp keys x y) ≡ is_lt (on (λ (p : ℕ × Record). p.1) record_cmp (with_version x) (with_version y))
+  same_order : (x y : Entry) → HasVersion x → HasVersion y → is_lt (entry_cmp keys x y) ≡ is_lt (by_both (with_version x) (with_version y))
   same_order x y h k =
-      ap is_lt ((λ i. ordering_then (nat_cmp x.front y.front) (ordering_then (nat_cmp x.next y.next) (slice_cmp nat_cmp (h.1 i) (k.1 i))))
-      ∙ by_keys _ _ _ _ x y h.0 k.0
-      ∙ keys_in_order (version_at x.position) (version_at y.position) (keyed (version_at x.position) h.2) (keyed (version_at y.position) k.2))
+      let position = nat_cmp x.position y.position in
+      let rest = slice_cmp nat_cmp (drop 16 (key_bytes (version_at x.position))) (drop 16 (key_bytes (version_at y.position))) in
+      ap is_lt ((λ i. ordering_then (nat_cmp x.front y.front) (ordering_then (nat_cmp x.next y.next) (ordering_then (slice_cmp nat_cmp (drop 16 (h.1 i)) (drop 16 (k.1 i))) position)))
+      ∙ ap (ordering_then (nat_cmp x.front y.front)) (sym (then_assoc (nat_cmp x.next y.next) rest position))
+      ∙ sym (then_assoc (nat_cmp x.front y.front) (ordering_then (nat_cmp x.next y.next) rest) position)
+      ∙ ap (λ o. ordering_then o position) (by_keys (version_at x.position) (version_at y.position) x.position y.position x y (keyed (version_at x.position) h.2) (keyed (version_at y.position) k.2) h.0 k.0))
 
   positions_same : (entries : List Entry) → map (λ (e : Entry). e.position) entries ≡ map (λ (p : ℕ × Record). p.0) (map with_version entries)
   positions_same [] = refl
   positions_same (e ∷ entries) = ap (λ l. e.position ∷ l) (positions_same entries)
 
-  abbrev below : Entry → Entry → Bool
-  below x y = is_lt (entry_cmp keys x y)
+  its_versions : (entries : List Entry) → AllByRecursion (λ (x : ℕ × Record). x.1 ≡ version_at x.0) (map with_version entries)
+  its_versions [] = tt
+  its_versions (e ∷ entries) = (refl, its_versions entries)
 
-  arranged : (given sorted : List Entry) (places : List ℕ) → All IsParsed versions → HasEntries 0 keys given → IsPermutation given sorted → IsSortedBy below sorted → IsStableBy below given sorted
+  arranged : (given sorted : List Entry) (places : List ℕ) → All IsParsed versions → HasEntries 0 keys given → IsPermutation given sorted → IsSortedBy (λ x y. is_lt (entry_cmp keys x y)) sorted
       → places ≡ map (λ (e : Entry). e.position) sorted → ArrangesPositions (enumerate_from 0 versions) places
-  arranged given sorted places parsed entries moved rises stable is =
-      let order = on (λ (p : ℕ × Record). p.1) record_cmp in
-      let total = on_total (λ (p : ℕ × Record). p.1) record_total in
+  arranged given sorted places parsed entries moved rises is =
       let lay = laid 0 [] versions given refl refl (recursion_from_All IsParsed versions parsed) entries in
       let all = All-from_recursion HasVersion given lay.1 in (
         map with_version sorted,
-        record {
-          same = subst (λ l. IsPermutation l (map with_version sorted)) lay.0 (IsPermutation-map with_version given sorted moved);
-          rises = rises_mapped with_version below order total HasVersion same_order sorted (All-permutation HasVersion given sorted moved all) rises;
-          stable = subst (λ l. IsStable order l (map with_version sorted)) lay.0 (stable_mapped with_version below order total HasVersion same_order given sorted all moved stable);
-        },
+        arranged_by_both versions version_at (map with_version sorted)
+            (subst (λ l. All (λ (x : ℕ × Record). x.1 ≡ version_at x.0) l) lay.0 (All-from_recursion (λ (x : ℕ × Record). x.1 ≡ version_at x.0) (map with_version given) (its_versions given)))
+            (subst (λ l. IsPermutation l (map with_version sorted)) lay.0 (IsPermutation-map with_version given sorted moved))
+            (rises_mapped with_version (λ x y. is_lt (entry_cmp keys x y)) by_both HasVersion same_order sorted (All-permutation HasVersion given sorted moved all) rises),
         is ∙ positions_same sorted,
       )
 
   -- the positions, where memory was found for them
   pub arranged_if : {V E : Type 0} (given_keys : List (List ℕ)) → given_keys ≡ keys → (view : V → List ℕ) (given sorted : List Entry) (result : Result V E) → All IsParsed versions → HasEntries 0 given_keys given
-      → IsPermutation given sorted → IsSortedBy (λ x y. is_lt (entry_cmp given_keys x y)) sorted → IsStableBy (λ x y. is_lt (entry_cmp given_keys x y)) given sorted
+      → IsPermutation given sorted → IsSortedBy (λ x y. is_lt (entry_cmp given_keys x y)) sorted
       → (slice : List Entry) → slice ≡ sorted → IfOk result (λ found. view found ≡ map (λ (e : Entry). e.position) slice)
       → IfOk result (λ found. ArrangesPositions (enumerate_from 0 versions) (view found))
-  arranged_if given_keys same view given sorted (Ok found) parsed entries moved rises stable slice is told =
-      arranged given sorted (view found) parsed (subst (λ k. HasEntries 0 k given) same entries) moved
+  arranged_if given_keys same view entries sorted (Ok found) parsed laid_keys moved rises slice is told =
+      arranged entries sorted (view found) parsed (subst (λ k. HasEntries 0 k entries) same laid_keys) moved
       (subst (λ k. IsSortedBy (λ x y. is_lt (entry_cmp k x y)) sorted) same rises)
-      (subst (λ k. IsStableBy (λ x y. is_lt (entry_cmp k x y)) given sorted) same stable)
       (told ∙ ap (map (λ (e : Entry). e.position)) is)
-  arranged_if given_keys same view given sorted (Err f) parsed entries moved rises stable slice is told = tt
+  arranged_if given_keys same view entries sorted (Err f) parsed laid_keys moved rises slice is told = tt
 
 -- ---- joined strings, one after the other
 

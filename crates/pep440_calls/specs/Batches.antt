@@ -116,7 +116,7 @@ abbrev pub ReportsBatchError : BatchError → ℕ → ℕ → ℕ → Type 0
 ReportsBatchError (stop.InvalidAt position) old new status = (new ≡ position) × (status ≡ 1)
 ReportsBatchError stop.OutOfMemory old new status = (new ≡ old) × (status ≡ 3)
 
--- ---- the order of sort keys: by their first bytes, as two numbers, and then by all
+-- ---- the order of sort keys: by their first bytes, as two numbers, then by the others, and then by position
 
 -- the first so many bytes, with zeros for those that lack
 abbrev pub padded : ℕ → List ℕ → List ℕ
@@ -124,10 +124,10 @@ padded zero bytes = []
 padded (suc count) [] = 0 ∷ padded count []
 padded (suc count) (b ∷ bytes) = b ∷ padded count bytes
 
--- the first eight bytes of the key as a number, the four after these, and its position
+-- the first eight bytes of the key as a number, the eight after these, and its position
 pub record IsEntryOf (at : ℕ) (key : List ℕ) (entry : Entry) : Type 0 where
   pub front : entry.front ≡ big_endian 0 (padded 8 key)
-  pub next : entry.next ≡ big_endian 0 (padded 4 (drop 8 key))
+  pub next : entry.next ≡ big_endian 0 (padded 8 (drop 8 key))
   pub position : entry.position ≡ at
   pub bytes : (k : ℕ) → get_or key k 0 < 256
 
@@ -142,12 +142,13 @@ HasEntries position (key ∷ keys) [] = ⊥
 abbrev pub key_at : List (List ℕ) → ℕ → List ℕ
 key_at keys position = get_or keys position []
 
-abbrev pub position_cmp : List (List ℕ) → ℕ → ℕ → Ordering
-position_cmp keys a b = slice_cmp nat_cmp (key_at keys a) (key_at keys b)
+-- by the bytes after the first sixteen, and then by position
+abbrev pub rest_cmp : List (List ℕ) → ℕ → ℕ → Ordering
+rest_cmp keys a b = ordering_then (slice_cmp nat_cmp (drop 16 (key_at keys a)) (drop 16 (key_at keys b))) (nat_cmp a b)
 
--- by the numbers, and then by the keys
+-- by the numbers, and then by the rest
 abbrev pub entry_cmp : List (List ℕ) → Entry → Entry → Ordering
-entry_cmp keys a b = ordering_then (nat_cmp a.front b.front) (ordering_then (nat_cmp a.next b.next) (position_cmp keys a.position b.position))
+entry_cmp keys a b = ordering_then (nat_cmp a.front b.front) (ordering_then (nat_cmp a.next b.next) (rest_cmp keys a.position b.position))
 
 -- ---- the newest version of a batch that a list matches literally; strings that denote no version are passed over
 

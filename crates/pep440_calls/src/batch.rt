@@ -1,6 +1,8 @@
 //! Many strings in one call.
 ghost use Rattle.std.specs.List.{All, AllZip, enumerate_from};
-ghost use Rattle.std.specs.Prelude.{IfOk, IfSome, List, [], if◌then◌else◌, length, map, ℕ, ◌++◌, ◌∷◌, ◌≡◌, ◌≤◌, drop, get_or, take};
+ghost use Rattle.std.specs.Prelude.{IfOk, IfSome, List, [], if◌then◌else◌, length, map, ℕ, ◌++◌, ◌∷◌, ◌≡◌, ◌≤◌, drop, take};
+ghost use Rattle.std.specs.Cmp.Lexicographic.{slice_cmp};
+ghost use Rattle.std.specs.Ordering.{nat_cmp};
 ghost use Rattle.std.specs.Slice.Scan.{big_endian};
 ghost use Rattle.pep440_compiled.specs.Lists.{HasSetFormat};
 ghost use Rattle.pep440_compiled.specs.SetForms.{HasSet, IsFrontsOf};
@@ -10,7 +12,7 @@ ghost use Rattle.pep440_rs.specs.Specifiers.{Spec};
 ghost use Rattle.pep440_keys.specs.SortKeys.{key_bytes};
 ghost use Rattle.pep440_version.specs.Record.{Record};
 ghost use Rattle.pep440_version.specs.RoundTrip.{IsParsed};
-ghost use Rattle.pep440_calls.specs.Batches.{ArrangesPositions, HasEntries, IsEntryOf, entry_cmp, key_at, padded, position_cmp, FilterMarks, HoldsOrBatchFaults, IsMark, EncodingsResult, FormsResult, JoinsEncodings, KeysResult, Marks, encoding_bytes, SortResult, Sorts, ReportsBatchError, batch_error_at};
+ghost use Rattle.pep440_calls.specs.Batches.{ArrangesPositions, HasEntries, IsEntryOf, entry_cmp, key_at, padded, rest_cmp, FilterMarks, HoldsOrBatchFaults, IsMark, EncodingsResult, FormsResult, JoinsEncodings, KeysResult, Marks, encoding_bytes, SortResult, Sorts, ReportsBatchError, batch_error_at};
 ghost use Rattle.pep440_calls.specs.CallResults.{IsCompiled, IsKey};
 ghost use Rattle.pep440_calls.specs.CallerBytes.{BytesDenote, BytesDenoteList, ListFaults, RejectsBytes};
 ghost use Rattle.pep440_calls.specs.Statuses.{Faults, HoldsOr, HoldsOrFaults};
@@ -253,23 +255,12 @@ pub fn write_positions(alloc: Global, texts: &[&[u8]], places: &mut [usize], at:
     }
 }
 
-// A sort key by its first twelve bytes, with zeros for those that it lacks, and its position.
+// A sort key by its first sixteen bytes, as two numbers, with zeros for those that it lacks, and its position.
 #[derive(Clone, Copy)]
 struct Entry {
     front: u64,
-    next: u32,
+    next: u64,
     position: usize,
-}
-
-// The byte at a position; 0 past the end.
-#[inline(always)]
-fn byte_at(key: &[u8], position: usize) -> u8
-    ensures { result ≡ get_or key.now position 0 }
-{
-    match key.get(position) {
-        Some(byte) => *byte,
-        None => 0,
-    }
 }
 
 // The first eight bytes as a number, which is read in one piece.
@@ -283,21 +274,16 @@ fn read_word(key: &[u8]) -> u64
     ])
 }
 
-// The first eight bytes of a key that may have fewer.
-#[tactic(auto, using(crate::proofs::Placed::eight_read))]
+// At most eight bytes as a number, with zeros for those that lack.
+#[tactic(auto, using(crate::proofs::Placed::padded_read))]
+#[inline(always)]
 fn pad_word(key: &[u8]) -> u64
+    requires { length key.now ≤ 8 }
     ensures { result ≡ big_endian 0 (padded 8 key.now) }
 {
-    u64::from_be_bytes([
-        byte_at(key, 0),
-        byte_at(key, 1),
-        byte_at(key, 2),
-        byte_at(key, 3),
-        byte_at(key, 4),
-        byte_at(key, 5),
-        byte_at(key, 6),
-        byte_at(key, 7),
-    ])
+    let mut bytes = [0; 8];
+    bytes[..key.len()].copy_from_slice(key);
+    read_word(&bytes)
 }
 
 // The first eight bytes.
@@ -312,18 +298,15 @@ fn read_front(key: &[u8]) -> u64
     read_word(key)
 }
 
-// The four bytes after the first eight.
-#[tactic(auto, using(crate::proofs::Placed::four_read))]
+// What follows so many bytes, none if there are no more.
 #[inline(always)]
-fn read_next(key: &[u8]) -> u32
-    ensures { result ≡ big_endian 0 (padded 4 (drop 8 key.now)) }
+fn skip(count: usize, key: &[u8]) -> &[u8]
+    ensures { result.now ≡ drop count key.now }
 {
-    u32::from_be_bytes([
-        byte_at(key, 8),
-        byte_at(key, 9),
-        byte_at(key, 10),
-        byte_at(key, 11),
-    ])
+    match key.get(count..) {
+        Some(rest) => rest,
+        None => &[],
+    }
 }
 
 #[inline(always)]
@@ -332,7 +315,7 @@ fn read_entry(position: usize, key: &[u8]) -> Entry
 {
     Entry {
         front: read_front(key),
-        next: read_next(key),
+        next: read_front(skip(8, key)),
         position,
     }
 }
@@ -347,12 +330,36 @@ fn key_at<'a>(keys: &[&'a [u8]], position: usize) -> &'a [u8]
     }
 }
 
-// By all bytes of the keys. A call of its own, so that keys which differ early pay nothing for it.
+// By the bytes after the first sixteen. A call of its own, since few keys have so many.
 #[inline(never)]
-fn cmp_positions(keys: &[&[u8]], a: usize, b: usize) -> Ordering
-    ensures { result ≡ position_cmp (map (λ k. k.now) keys.now) a b }
+fn cmp_long(a: &[u8], b: &[u8]) -> Ordering
+    ensures { result ≡ slice_cmp nat_cmp (drop 16 a.now) (drop 16 b.now) }
 {
-    compare_sort_keys(key_at(keys, a), key_at(keys, b))
+    compare_sort_keys(skip(16, a), skip(16, b))
+}
+
+// As above; equal if both keys have no more.
+#[tactic(auto, using(crate::proofs::Placed::none_follow))]
+#[inline(always)]
+fn cmp_ends(a: &[u8], b: &[u8]) -> Ordering
+    ensures { result ≡ slice_cmp nat_cmp (drop 16 a.now) (drop 16 b.now) }
+{
+    if a.len() > 16 || b.len() > 16 {
+        return cmp_long(a, b);
+    }
+    Ordering::Equal
+}
+
+// By the bytes after the first sixteen, and then by position. A call of its own, so that keys which differ early pay nothing for it.
+#[inline(never)]
+fn cmp_rest(keys: &[&[u8]], a: usize, b: usize) -> Ordering
+    ensures { result ≡ rest_cmp (map (λ k. k.now) keys.now) a b }
+{
+    let order = cmp_ends(key_at(keys, a), key_at(keys, b));
+    if order != Ordering::Equal {
+        return order;
+    }
+    a.cmp(&b)
 }
 
 #[inline(always)]
@@ -365,7 +372,7 @@ fn cmp_entries(keys: &[&[u8]], a: &Entry, b: &Entry) -> Ordering
     if a.next != b.next {
         return a.next.cmp(&b.next);
     }
-    cmp_positions(keys, a.position, b.position)
+    cmp_rest(keys, a.position, b.position)
 }
 
 // The entries of the keys, in the order given.
@@ -397,7 +404,7 @@ fn sort_positions(alloc: Global, keys: &[&[u8]]) -> Result<Vec<usize>, AllocErro
         → IfOk result (λ found. ArrangesPositions (enumerate_from 0 versions) found.items) }
 {
     let mut entries = collect_entries(alloc, keys)?;
-    entries.sort_by(|a, b| cmp_entries(keys, a, b))?;
+    entries.sort_unstable_by(|a, b| cmp_entries(keys, a, b));
     collect_positions(alloc, entries.as_slice())
 }
 

@@ -56,23 +56,37 @@ fn make_form<'a>(
     compile_string(alloc, buffer, bytes)
 }
 
+// How the left version, which has this compiled form, compares with the right one. Only the contract reads the left one itself.
+#[inline(always)]
+fn compare_form(alloc: Global, _left: &[u8], form: &[u8], right: &[u8]) -> Result<Ordering, Fault>
+    requires { IsCompiled _left.now form.now }
+    ensures found { ReturnsOrder _left.now right.now result }
+    ensures memory { NeedsNoMemory right.now → IfErr result (λ f. f ≢ OutOfMemory) }
+{
+    let mut buffer = FormBuffer::new(alloc);
+    match make_form(alloc, &mut buffer, right) {
+        Ok(other) => {
+            let order = pep440_compiled::compare(form, other);
+            Ok(order.unwrap_or(Ordering::Equal))
+        }
+        Err(Fault::OutOfMemory) => Err(Fault::OutOfMemory),
+        Err(_rejected) => Err(Fault::InvalidRight),
+    }
+}
+
 // How versions compare by their compiled forms, of which strings have none yet.
 #[inline(never)]
 fn compare_forms(alloc: Global, left: &[u8], right: &[u8]) -> Result<Ordering, Fault>
     ensures found { ReturnsOrder left.now right.now result }
     ensures memory { NeedsNoMemory left.now → NeedsNoMemory right.now → IfErr result (λ f. f ≢ OutOfMemory) }
 {
-    let mut left_buffer = FormBuffer::new(alloc);
-    let mut right_buffer = FormBuffer::new(alloc);
-    let first = make_form(alloc, &mut left_buffer, left)?;
-    match make_form(alloc, &mut right_buffer, right) {
-        Ok(second) => {
-            let order = pep440_compiled::compare(first, second);
-            Ok(order.unwrap_or(Ordering::Equal))
-        }
-        Err(Fault::OutOfMemory) => Err(Fault::OutOfMemory),
-        Err(_rejected) => Err(Fault::InvalidRight),
+    if has_version_format(left) {
+        let form = find_form(left)?;
+        return compare_form(alloc, left, form, right);
     }
+    let mut buffer = FormBuffer::new(alloc);
+    let form = make_form(alloc, &mut buffer, left)?;
+    compare_form(alloc, left, form, right)
 }
 
 // How the left version compares with the right one.

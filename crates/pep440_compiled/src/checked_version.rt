@@ -46,7 +46,7 @@ fn is_number(bytes: &[u8]) -> bool
 
 // What follows a number of so many bytes.
 #[inline(always)]
-fn check_counted(count: u8, bytes: &[u8]) -> Option<&[u8]>
+fn check_number(count: u8, bytes: &[u8]) -> Option<&[u8]>
     ensures found { (n : ℕ) (rest : List ℕ) → count ≡ length (needed_bytes n) → bytes.now ≡ needed_bytes n ++ rest
         → MatchOption result ⊥ (λ r. r.now ≡ rest) }
     ensures exact { IfSome result (λ r. (n : ℕ) × Fits n × (count ≡ length (needed_bytes n)) × (bytes.now ≡ needed_bytes n ++ r.now)) }
@@ -59,30 +59,33 @@ fn check_counted(count: u8, bytes: &[u8]) -> Option<&[u8]>
     Some(rest)
 }
 
-// As above. Most numbers have one byte or none, and a count that the compiler knows takes fewer instructions.
-#[inline(always)]
-fn check_number(count: u8, bytes: &[u8]) -> Option<&[u8]>
-    ensures found { (n : ℕ) (rest : List ℕ) → count ≡ length (needed_bytes n) → bytes.now ≡ needed_bytes n ++ rest
-        → MatchOption result ⊥ (λ r. r.now ≡ rest) }
-    ensures exact { IfSome result (λ r. (n : ℕ) × Fits n × (count ≡ length (needed_bytes n)) × (bytes.now ≡ needed_bytes n ++ r.now)) }
-    ensures shorter { IfSome result (λ r. length r.now ≤ length bytes.now) }
-{
-    match count {
-        0 => check_counted(0, bytes),
-        1 => check_counted(1, bytes),
-        _ => check_counted(count, bytes),
-    }
-}
-
-// What follows an epoch.
+// What follows an epoch, which seldom has a byte.
 #[inline(always)]
 fn check_epoch(bytes: &[u8]) -> Option<&[u8]>
     ensures found { (n : ℕ) (rest : List ℕ) → bytes.now ≡ number_bytes 0 n ++ rest → MatchOption result ⊥ (λ r. r.now ≡ rest) }
     ensures exact { IfSome result (λ r. (n : ℕ) × Fits n × (bytes.now ≡ number_bytes 0 n ++ r.now)) }
 {
     let (first, later) = bytes.split_first()?;
-    let rest = check_number(*first, later)?;
-    Some(rest)
+    if *first == 0 {
+        return check_number(0, later);
+    }
+    check_number(*first, later)
+}
+
+// What follows a number of a release that has one byte.
+#[tactic(auto, using(crate::proofs::Rewritten::coded_again))]
+#[inline(always)]
+fn check_short_number(bytes: &[u8]) -> Option<&[u8]>
+    ensures found { (n : ℕ) (rest : List ℕ) → 1 ≡ length (needed_bytes n) → bytes.now ≡ number_bytes 1 n ++ rest
+        → IfSome result (λ r. r.now ≡ rest) }
+    ensures exact { IfSome result (λ r. (n : ℕ) × Fits n × (1 ≡ length (needed_bytes n)) × (bytes.now ≡ number_bytes 1 n ++ r.now)) }
+    ensures shorter { IfSome result (λ r. length r.now < length bytes.now) }
+{
+    let (first, later) = bytes.split_first()?;
+    if *first != 2 {
+        return None;
+    }
+    check_number(1, later)
 }
 
 // What follows the release, which ends in so many zeros that the key leaves out. Another zero may not end its numbers, and one number
@@ -97,6 +100,11 @@ fn check_release(bytes: &[u8], zeros: usize) -> Option<&[u8]>
 {
     let mut may_end = zeros > 0;
     let mut left = bytes;
+    // Most numbers have one byte, and take fewer instructions by themselves.
+    while let Some(rest) = check_short_number(left) {
+        may_end = true;
+        left = rest;
+    }
     while let Some((first, later)) = left.split_first() {
         if *first == 0 {
             if !may_end {

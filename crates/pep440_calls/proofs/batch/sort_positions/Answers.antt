@@ -11,7 +11,6 @@ pub returns : goal.returns
 returns c versions parsed same =
     let keys : List (List ℕ) = map (λ (k : Bor (List ℕ)). k.now) c.args.keys.now in
     let total = ranks_by (entry_total keys) (λ (e : Entry). e) in
-    let rises = c.in_ok-sort_by.ensures.sorted (λ (x y : Entry). is_lt (entry_cmp keys x y)) total (always_returns_same _ _ _ (λ a r f k. search rules)) in
-    let stable = c.in_ok-sort_by.ensures.stable (λ (x y : Entry). is_lt (entry_cmp keys x y)) total (always_returns_same _ _ _ (λ a r f k. search rules)) in
-    arranged_if versions keys same _ c.in_ok-entries.entries.items c.sort_by.new.self.items c.collect_positions.result parsed c.in_ok-entries.ensures c.in_ok-sort_by.ensures.permutation
-    rises stable c.as_slice.result.now c.as_slice.ensures.value c.collect_positions.ensures
+    let rises = c.sort_unstable_by.ensures.sorted (λ (x y : Entry). is_lt (entry_cmp keys x y)) total (always_returns_same _ _ _ (λ a r f k. search rules)) in
+    arranged_if versions keys same _ c.in_ok-entries.entries.items c.sort_unstable_by.new.self.items c.collect_positions.result parsed c.in_ok-entries.ensures c.sort_unstable_by.ensures.permutation
+    rises c.as_slice.result.now c.as_slice.ensures.value c.collect_positions.ensures

@@ -1,6 +1,5 @@
 use Rattle.std.proofs.Common.{Bor, List, ℕ, ◌≡◌, ◌∙◌, ap, inl, inr, map, refl, subst}
 use Rattle.std.specs.List.{AllZip}
-use Rattle.std.specs.Prelude.{IfOk, IfSome}
 use Rattle.pep440_calls.proofs.batch.write_encodings.Goals as goal
 use Rattle.pep440_calls.specs.Batches.{EncodingsResult, encoding_bytes}
 use Rattle.pep440_calls.specs.CallerBytes.{BytesDenote}
