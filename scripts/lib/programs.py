@@ -10,8 +10,6 @@ import tempfile
 
 from lib.sources import TOP, name_of, text_of
 
-# ---- runs
-
 
 def built(name, file=None):
     """The file of a program: this one, else the one that is built, with a proof or without."""

@@ -26,8 +26,6 @@ def name_of(path):
     return str(path.relative_to(TOP))
 
 
-# ---- crates
-
 # A crate of crates.txt: whether it is a static library, a library, of tests, and all that it depends on.
 Crate = collections.namedtuple("Crate", "is_static is_library is_of_tests uses")
 

@@ -8,8 +8,6 @@ import textwrap
 
 from lib.sources import AGREEING, SECTIONS, TOP, code_of, crates, exports, libraries, modules, row, sources, text_of, trusted, with_below, without_sections, write_pages
 
-# ---- definitions
-
 
 def comment_of(module):
     """The comment at the start of a file."""
