@@ -1,6 +1,6 @@
 -- How a call ends: its status, and what it leaves in the caller's memory. 0 ok, 1 a version is invalid, 2 a list is invalid, 3 out of
--- memory, 4 too little room, 5 a bound lies above the greatest number, 6 the right one of two versions is invalid, 7 a version is not
--- packed, 8 it cannot be changed so, 9 bytes are to be nothing known, 10 none is found, 12 a list has no set, 13 a set has no list.
+-- memory, 4 too little room, 5 a bound lies above the greatest number, 6 the right one of two versions or sets is invalid, 7 a version is
+-- not packed, 8 it cannot be changed so, 9 bytes are to be nothing known, 10 none is found, 12 a list has no set, 13 a set has no list.
 use Rattle.std.specs.Prelude.{◌≡◌, ◌⊎◌, ◌≤◌, ◌<◌, ℕ, Bool, List, ◌++◌, drop, length, Result, Ok, Err, if◌then◌else◌, ◌+◌, [], ◌∷◌}
 use Rattle.pep440_compiled.specs.declared.error.CompileError.{CompileError}
 use Rattle.pep440_compiled.specs.declared.error.CompileStringError.{CompileStringError}

@@ -108,7 +108,7 @@ pub fn compiled_once()
         → BytesDenoteList text l ↔ BytesDenoteList compiled l }
 {}
 
-/// How many bytes suffice for the forms of a version, by the length of a string that denotes it: the bounds of `callers/c/pep440.h`.
+/// How many bytes suffice for the forms of a version, by the length of a string that denotes it: the bounds of `callers/c/pep440.h`, or less.
 pub fn forms_are_bounded()
     ensures normal { (bytes : List ℕ) (r : Record) → StringDenotes bytes r → length (print r) ≤ 9 + length bytes }
     ensures key { (bytes : List ℕ) (r : Record) → StringDenotes bytes r → length (key_bytes r) ≤ 7 + 3 * length bytes / 2 }

@@ -5,7 +5,7 @@
 //! either, but for those that take an operator, a pattern or one specifier as a string. No call keeps a reference, and none has a
 //! condition beyond its types. Each returns a status: 0 ok, 1 a version is invalid, 2 a list is invalid, or an operator or a
 //! specifier, 3 out of memory, 4 too little room, 5 a bound of a range lies above the greatest number, 6 the right one of two
-//! versions is invalid, 7 a version is not packed, 8 a version cannot be changed so, 9 bytes are to be nothing known, 10 none is
+//! versions or sets is invalid, 7 a version is not packed, 8 a version cannot be changed so, 9 bytes are to be nothing known, 10 none is
 //! found, 12 a list has no set, 13 a set by itself has no list.
 //!
 //! `write_order` of two compiled versions, `write_match` and `write_request_flag` of a compiled list read them as they lie. They do not test the whole of

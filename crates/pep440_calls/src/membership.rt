@@ -119,7 +119,7 @@ fn write_string_match(
 
 /// Whether the list contains the version, 1 or 0 (PEP 440, "Version specifiers"); and whether the version is a pre-release or
 /// a developmental release, 1 or 0 (PEP 440, "Handling of pre-releases"). The list is read first, unless it is compiled: then
-/// nothing is allocated for a compiled version, or for a string in a normal spelling.
+/// nothing is allocated for a compiled version, or for a short string in normal form.
 pub fn write_match(
     alloc: Global,
     list: &[u8],
@@ -140,7 +140,7 @@ pub fn write_match(
 /// pre-release and no developmental release unless these are taken. `prereleases` is 0 if they are not, 1 if they are, and else they are
 /// if a specifier with another operator than `!=` names one. A set by itself allows versions in it in the same way, but has no list that
 /// names one: status 13 if `prereleases` is above 1. The list is read first, unless it is compiled and has its set: then nothing is
-/// allocated for a compiled version, or for a string in a normal spelling.
+/// allocated for a compiled version, or for a short string in normal form.
 pub fn write_allow_flag(
     alloc: Global,
     list: &[u8],

@@ -30,7 +30,7 @@ fn normalize(alloc: Global, bytes: &[u8]) -> Result<String, Fault>
     Ok(version.to_string(alloc)?)
 }
 
-/// Writes the compiled form of the version. Allocates nothing for a compiled version, or for a string in a normal spelling.
+/// Writes the compiled form of the version. Allocates nothing for a compiled version, or for a short string in normal form.
 pub fn write_compiled(alloc: Global, text: &[u8], out: &mut [u8], written: &mut usize) -> u8
     ensures found { WritesBytes (RejectsBytes text.now) ⊥ ⊥ (IsCompiled text.now) out.old out.new written.old written.new result }
     ensures memory { NeedsNoMemory text.now → result ≢ 3 }
@@ -83,7 +83,7 @@ pub(crate) fn compile_string<'a>(
 }
 
 /// Writes the sort key of the version: `memcmp` orders keys as their versions (PEP 440, "Summary of permitted
-/// suffixes and relative ordering"). Allocates nothing for a compiled version, or for a string in a normal spelling.
+/// suffixes and relative ordering"). Allocates nothing for a compiled version, or for a short string in normal form.
 pub fn write_sort_key(alloc: Global, text: &[u8], out: &mut [u8], written: &mut usize) -> u8
     ensures found { WritesBytes (RejectsBytes text.now) ⊥ ⊥ (IsKey text.now) out.old out.new written.old written.new result }
     ensures memory { NeedsNoMemory text.now → result ≢ 3 }

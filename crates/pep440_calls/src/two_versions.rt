@@ -14,7 +14,7 @@ use std::cmp::Ordering;
 
 /// How the left version compares with the right one: -1 below, 0 equal, 1 above (PEP 440, "Summary of permitted
 /// suffixes and relative ordering"). Status 6 if only the right one is invalid. Allocates nothing for compiled versions and
-/// strings in a normal spelling.
+/// short strings in normal form.
 pub fn write_order(alloc: Global, left: &[u8], right: &[u8], order: &mut i8) -> u8
     ensures found { OrderResult left.now right.now order.old order.new result }
     ensures memory { NeedsNoMemory left.now → NeedsNoMemory right.now → result ≢ 3 }

@@ -66,7 +66,7 @@ impl FormBuffer {
     /// `compile_version` makes it of the parsed version; an error if the string is rejected. What the buffer had is overwritten.
     ///
     /// Does not allocate for the normalized form of a version whose compiled form has at most 64 bytes, if it has up to four release
-    /// numbers, none above 2147483647, and no local segment of digits, but of one. Nor does it for longer numbers in the local part, for
+    /// numbers, none of its numbers above 2147483647, and no local segment of digits, but of one. Nor does it for longer numbers in the local part, for
     /// releases of more or larger numbers, and in other spellings of their pre-releases.
     #[inline(always)]
     pub fn compile<'a>(

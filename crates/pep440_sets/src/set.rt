@@ -37,11 +37,11 @@ impl Model for VersionSet {
 }
 
 impl VersionSet {
-    #[tactic(auto, using(crate::proofs::Lists::list_is_set, crate::proofs::Lists::list_holds))]
     /// The versions that match each of these specifiers by the literal rule, as `VersionSpecifier::matches_literally` has it (PEP 440, "Version
     /// specifiers"). Each must be one that a string denotes. n specifiers take n log n steps.
     ///
     /// Allocates. Returns `ArbitraryEquality` exactly if some specifier has the operator `===`, and `OutOfMemory` if an allocation fails.
+    #[tactic(auto, using(crate::proofs::Lists::list_is_set, crate::proofs::Lists::list_holds))]
     pub fn from_specifiers(
         alloc: Global,
         specifiers: &[VersionSpecifier],
@@ -69,10 +69,10 @@ impl VersionSet {
         &self.intervals
     }
 
-    #[tactic(auto, using(crate::proofs::SetBoundaries::gaps_set))]
     /// The versions that are not in the set.
     ///
     /// Allocates.
+    #[tactic(auto, using(crate::proofs::SetBoundaries::gaps_set))]
     pub fn complement(&self, alloc: Global) -> Result<VersionSet, AllocError>
         ensures { IfOk result (λ set. (v : Record) → contains record_cmp set v ≡ not (contains record_cmp self.now v)) }
     {
@@ -80,10 +80,10 @@ impl VersionSet {
         Ok(VersionSet { intervals })
     }
 
-    #[tactic(auto, using(crate::proofs::SetBoundaries::overlaps_set))]
     /// The versions that are in both sets, in one pass over both.
     ///
     /// Allocates.
+    #[tactic(auto, using(crate::proofs::SetBoundaries::overlaps_set))]
     pub fn intersection(&self, alloc: Global, other: &VersionSet) -> Result<VersionSet, AllocError>
         ensures { IfOk result (λ set. (v : Record) → contains record_cmp set v ≡ contains record_cmp self.now v && contains record_cmp other.now v) }
     {

@@ -30,7 +30,6 @@ use Rattle.pyver_commands.specs.Sources.RunFailures.{IsRunFailureOf}
 use Rattle.pyver_commands.specs.Sources.{KnownFile, MayOpen, ReadsAll, ReadsSource, ReadsText, UnopenedSource, input_name, input_origin, is_input, is_none, last_name, source_names, unopened_message, unopened_status}
 use Rattle.pyver_commands.specs.declared.sources.open_failure.OpenFailure.{OpenFailure}
 use Rattle.pyver_commands.specs.declared.sources.stream.RunFailure.{RunFailure}
-use Rattle.pyver_commands.specs.declared.sources.stream.RunFailure.TheVariants as run_failure
 
 -- ---- what is asked for by some lines and then by others
 

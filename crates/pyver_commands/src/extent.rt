@@ -186,11 +186,11 @@ fn find_with(
     }
 }
 
-#[tactic(auto, using(crate::proofs::CommandLaws::first_fails, crate::proofs::CommandLaws::parsed))]
 /// `marker MARKER [MARKER]`: an environment in which the marker holds, or both do, as a marker, `always` or `nowhere`; on one system if its variables are
 /// `linked`. The status is 0, 1 if there is none, and 2 if a word is no marker, or if it is undecided.
 ///
 /// Allocates.
+#[tactic(auto, using(crate::proofs::CommandLaws::first_fails, crate::proofs::CommandLaws::parsed))]
 pub fn find_extent(
     alloc: Global,
     linked: bool,

@@ -17,8 +17,8 @@ pub fn common_ranges()
     ensures status { NoVersionHasItsStatus }
 {}
 
-#[tactic(auto, using(crate::proofs::CommandLaws::holds_or_not))]
 /// `marker` never prints an environment for words for which it also prints `nowhere`.
+#[tactic(auto, using(crate::proofs::CommandLaws::holds_or_not))]
 pub fn marker_extents()
     ensures { HoldsOrNot }
 {}

@@ -1,6 +1,6 @@
 -- A smallest list of lines that have no version in common, which without any one of its lines have some: found in rounds, and by halves with sets.
 use Rattle.std.proofs.Common.{Bool, IfSome, IsTrue, List, None, Option, Some, [], ap, arith, drop, false, get_or, if◌then◌else◌, is_none, length, length-drop, map, refl, reverse, subst, sym, take, true, ℕ, ◌&&◌, ◌++◌, ◌+◌, ◌-◌, ◌/◌, ◌<◌, ◌==◌, ◌∙◌, ◌∷◌, ◌≡◌, ◌≢◌, ◌≤◌}
-use Rattle.std.proofs.lemmas.Bool.{eqb-true, true_from_ne_false, true≢false}
+use Rattle.std.proofs.lemmas.Bool.{true_from_ne_false, true≢false}
 use Rattle.std.proofs.lemmas.List.{append-nil, append_assoc, length-take-le, map-append, reverse-append, reverse-reverse, take-append-drop, take_more, take_rest}
 use Rattle.std.proofs.lemmas.List.Elements.{All-append, All-cons, All-filter, All-head, All-nil, All-same, All-tail}
 use Rattle.std.proofs.lemmas.List.Concat.{flat_map-append}

@@ -35,8 +35,8 @@ pub fn strings_have_grammar()
     ensures { StringsHaveGrammar }
 {}
 
-#[tactic(auto, using(crate::proofs::StringReadings::strings_differ))]
 /// Different bytes are different JSON strings.
+#[tactic(auto, using(crate::proofs::StringReadings::strings_differ))]
 pub fn json_strings_differ()
     ensures { JsonStringsDiffer }
 {}

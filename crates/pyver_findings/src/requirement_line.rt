@@ -248,11 +248,11 @@ fn list_meaning(
     }
 }
 
-#[tactic(auto, using(crate::proofs::Rejecting::list_read))]
 /// What the string of this line is, which is to be a list of specifiers: it asks for no package, no version satisfies it, or it is invalid
 /// for the reason and at the column of its first invalid piece.
 ///
 /// Allocates.
+#[tactic(auto, using(crate::proofs::Rejecting::list_read))]
 pub fn parse_specifiers(
     alloc: Global,
     line: &FileLine,

@@ -137,11 +137,11 @@ impl<'a> EnvironmentMarker<'a> {
         Ok(EnvironmentMarker { steps })
     }
 
-    #[tactic(auto, using(crate::proofs::Readings::last_is_value))]
     /// The value of the marker in the environment (PEP 508, "Environment Markers"): whether it holds, or `None` if one of its comparisons
     /// is undefined there.
     ///
     /// Allocates.
+    #[tactic(auto, using(crate::proofs::Readings::last_is_value))]
     pub fn evaluate(
         &self,
         alloc: Global,
@@ -153,11 +153,11 @@ impl<'a> EnvironmentMarker<'a> {
         Ok(value)
     }
 
-    #[tactic(auto, using(crate::proofs::Readings::last_is_boxes, crate::proofs::BoxLaws::hold_in_boxes))]
     /// The environments in which the marker has the wanted value, as boxes, of those in which it is defined. `None` if and-ing and or-ing them
     /// comes to more than 1,000 boxes.
     ///
     /// Allocates.
+    #[tactic(auto, using(crate::proofs::Readings::last_is_boxes, crate::proofs::BoxLaws::hold_in_boxes))]
     pub fn to_boxes(
         &self,
         alloc: Global,
@@ -209,11 +209,11 @@ impl<'a> EnvironmentMarker<'a> {
         Ok(None)
     }
 
-    #[tactic(auto, using(crate::proofs::FoundEnvironments::always))]
     /// The environments of the domain in which the marker holds, as far as they are known: none, some while it is false in none, or those with the variables
     /// found.
     ///
     /// Allocates.
+    #[tactic(auto, using(crate::proofs::FoundEnvironments::always))]
     pub fn find_extent(
         &self,
         alloc: Global,

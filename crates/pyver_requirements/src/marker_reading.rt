@@ -54,12 +54,12 @@ fn take_steps(alloc: Global, steps: &[Step<'_>]) -> Result<Terms, AllocError>
     Ok(pop_terms(alloc, &mut terms))
 }
 
-#[tactic(auto, using(crate::proofs::MarkerReadings::normal_steps, crate::proofs::MarkerReadings::stray_steps))]
 /// The environment marker in its normal form: two strings are the same marker if these bytes are the same. Quotes and blanks, older names,
 /// parentheses that do not matter, the order of what `and` or `or` joins, how often it stands there, and the sides of `<`, `<=`, `==`,
 /// `!=`, `>=` and `>` do not count. Fails with the first fault from the left and its position.
 ///
 /// Allocates.
+#[tactic(auto, using(crate::proofs::MarkerReadings::normal_steps, crate::proofs::MarkerReadings::stray_steps))]
 pub fn parse_marker(alloc: Global, text: &[u8]) -> Result<Vec<u8>, MarkerError>
     ensures found { IfOk result (λ m. marker text.now ≡ Ok m.items) }
     ensures refused { IfErr result (IsMarkerFault (marker text.now)) }

@@ -10,7 +10,7 @@ use Rattle.pep440_version.specs.Reading.{past, skip_v}
 use Rattle.pep440_version.specs.Record.{Record, LocalSegmentValue}
 use Rattle.pep440_version.specs.Rejections.{Rejection, Wildcard, NumberTooBig, NoLeadingNumber, NoLeadingReleaseNumber, LocalEmpty, UnexpectedEnd, Opens, RejectsEarlier}
 use Rattle.pep440_version.specs.Whole.{parse_through_release, parse_epoch_and_release, parse_parts, starts_with_star, pattern_from, version_of, read_version}
-use Rattle.pep440_version.proofs.Reading.Prefixes.{both_first, past-run, lead-run}
+use Rattle.pep440_version.proofs.Reading.Prefixes.{past-run, lead-run}
 use Rattle.pep440_version.proofs.Reading.ReadIsDerived.{inside, number_first, number_again}
 use Rattle.pep440_version.proofs.Reading.AfterRelease.{IsQuiet, pre_again, post_again, dev_again, Follows, follows_pre, follows_post, follows_dev, plus_no_letter}
 use Rattle.pep440_version.proofs.Reading.Agreement.{prefix_again, opening_again, only}

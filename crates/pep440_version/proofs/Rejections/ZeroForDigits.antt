@@ -3,7 +3,7 @@ use Rattle.std.proofs.Common.{◌≡◌, ◌≤◌, ◌<◌, ◌^◌, ◌==◌, 
 use Rattle.std.proofs.lemmas.Bool.{cases_Bool, le-ltb}
 use Rattle.std.proofs.lemmas.Bool.Decides.{nat_tests}
 use Rattle.std.specs.Char.{is_ascii_digit, to_ascii_lowercase, is_ascii_whitespace}
-use Rattle.std.specs.List.{list_all, prefix_len}
+use Rattle.std.specs.List.{list_all}
 use Rattle.std.specs.Str.Parse.{digits_value}
 use Rattle.pep440_version.specs.Grammar.{Spellings, is_separator, pre_spellings, post_spellings, dev_spellings, starts, is_v}
 use Rattle.pep440_version.specs.Reading.{◌>>=◌, lead, past, starts_with_number, parse_number, Read, skip_v, has_next_number, parse_release}
@@ -13,7 +13,7 @@ use Rattle.pep440_version.proofs.Reading.Prefixes.{both_first, both_second, lead
 use Rattle.pep440_version.proofs.Reading.ReadIsDerived.{chosen, split}
 use Rattle.pep440_version.proofs.Reading.SpelledIsRead.{is_letter, digit_no_separator, digit_no_letter, some}
 use Rattle.pep440_version.proofs.Rejections.LongerTexts.{Reader, IsEnd, end_of, past_one, lead_one, separator_end, drop_end, number_end}
-use Rattle.std.proofs.lemmas.List.{append_assoc, append-nil, length-append, append_cancel_right}
+use Rattle.std.proofs.lemmas.List.{append-nil, length-append}
 use Rattle.pep440_version.specs.Locals.{starts_local, parse_local}
 use Rattle.pep440_version.specs.Whole.{parse_release_after_epoch, parse_epoch_and_release, parse_through_release, parse_parts, starts_with_star}
 use Rattle.pep440_version.proofs.Rejections.LongerParts.{record_of, end_long, v_end}
