@@ -13,7 +13,7 @@ use pyver_locks::lock_kind::LockKind;
 /// The kinds of documents.
 #[derive(Clone, Copy, Debug, PartialEq, Eq)]
 pub enum DocumentKind {
-    /// `pyproject.toml`.
+    /// `pyproject.toml`, or a Pipfile.
     Project,
     /// A lock.
     Lock(LockKind),
@@ -172,7 +172,7 @@ fn is_named_pylock(name: &[u8]) -> bool
         && count_dots(name) == 2
 }
 
-/// The path has an ending of documents: `.lock`, `.toml`, `.cfg` or `.json`.
+/// Whether the path has an ending of documents: `.lock`, `.toml`, `.cfg` or `.json`.
 ///
 /// Allocates nothing.
 pub fn is_document_path(path: &[u8]) -> bool

@@ -34,8 +34,7 @@ use pyver_locks::toml_lock::toml_contents;
 use pyver_projects::inclusions::{group_names, has_group_tool};
 use pyver_projects::own_extras::{extra_names, project_strings};
 use pyver_projects::place::{
-    Places, document_keys, line_after, line_at, position_of, read_places, read_quoted_lines,
-    string_number,
+    Places, document_keys, line_after, line_at, read_places, read_quoted_lines, string_number,
 };
 use pyver_projects::project::{EntryTool, ProjectString, Section, project_name};
 use pyver_projects::tool_tables::overridden_names;
@@ -70,7 +69,7 @@ pub(crate) struct LockReading {
     pub(crate) optional: Vec<ExtraReading>,
     // What the lock says that the project in its folder requires.
     pub(crate) entries: Vec<LineMeaning>,
-    // What is wrong with their files, and with them beside one another.
+    // What is wrong with their files, and with them by themselves and beside one another.
     pub(crate) faults: Vec<LineMeaning>,
 }
 
@@ -194,6 +193,20 @@ fn reject_toml(
         None => 0,
     };
     reject_document(alloc, name, text.as_bytes(), position, error.message())
+}
+
+// The position of the byte in this column of this line, both from 1. No clause is needed: a broken document may be reported at any position.
+fn position_of(text: &[u8], line: usize, column: usize) -> usize {
+    let mut number: usize = 1;
+    for (at, byte) in text.iter().enumerate() {
+        if number == line {
+            return at.saturating_add(column.saturating_sub(1));
+        }
+        if *byte == b'\n' {
+            number = number.saturating_add(1);
+        }
+    }
+    text.len()
 }
 
 fn reject_json(

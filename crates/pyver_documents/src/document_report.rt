@@ -88,7 +88,7 @@ fn push_packages(
     Ok(())
 }
 
-// Adds what is wrong with a file, or with packages beside one another, if something is.
+// Adds what is wrong with a file or a package, if something is.
 fn push_lock_fault(findings: &mut Vec<Finding>, fault: LineMeaning) -> Result<(), AllocError>
     ensures { IfOk result (λ _. map finding_of findings.new.items ≡ map finding_of findings.old.items ++ invalid_in (line_meaning_of fault)) }
 {
@@ -287,10 +287,9 @@ pub(crate) fn read_documents<'a>(
     Ok(read)
 }
 
-#[tactic(auto, using(crate::proofs::Holding::sound_documents))]
 /// What is wrong in the documents. First what is wrong in each by itself, in order: tables, arrays or strings of a project that are none,
-/// strings that are no requirement, no list of specifiers or no version, a list that no version satisfies, groups (PEP 735) with the
-/// normal name of another, with an item that is neither a string nor a table of `include-group` only, or that include a group that does
+/// strings that are no requirement, no list of specifiers or no version, a list that no version satisfies, fields that are both dynamic and given (PEP 621, "dynamic"),
+/// names of extras and groups that are none (PEP 508, "Names"), extras (PEP 685) and groups (PEP 735) with the normal name of another, groups with an item that is neither a string nor a table of `include-group` only, or that include a group that does
 /// not exist or that includes them in turn, strings of dependencies, extras and groups that ask for an extra of the project itself that it does not have,
 /// by its table or Poetry's, unless `optional-dependencies` is dynamic, versions of a lock that are none, and a document that is not TOML, or JSON, in UTF-8. After
 /// the packages of a lock the files of those from an index in whose
@@ -324,7 +323,7 @@ pub(crate) fn read_documents<'a>(
 /// version. Their requirements are the names in uv's `metadata.requires-dist`, each with its `specifier`, those in an array
 /// `dependencies`, or its strings, as PDM writes them, there or, in `pylock.toml`, at `tool.pdm`, and those in Poetry's table `dependencies` with their lists; one that PEP 440 does
 /// not know, as `^1.0`, is left out. For an extra that a requirement asks for they require what stands in Poetry's table `extras` and uv's `optional-dependencies`, also
-/// through other extras. `pdm.lock` has a package for each set of `extras` that is asked for ("Lock file" of PDM). An array `dependencies` in `pylock.toml` only refers to packages, wherever these are (PEP 751, `packages.dependencies`). The names of a project are `project.name` and `tool.poetry.name`. The files of packages are `files`,
+/// through other extras. `pdm.lock` has a package for each set of `extras` that is asked for ("Lock file" of PDM). An array `dependencies` in `pylock.toml` only refers to packages, wherever these are (PEP 751, `packages.dependencies`). The name of a project is `project.name`, or else `tool.poetry.name`. The files of packages are `files`,
 /// `wheels` and `sdist`, each named by its `file`, `name`, `url` or `path`. Other values of other types in a lock are passed over. Extras and groups come in the order of
 /// their names. A string has the number of the first line on which it stands in quotes, a package of `Pipfile.lock` the number of the first line with its name in quotes, another
 /// package, with what it requires, the number of its header. Either has 1 without one. Each string and each package counts as a line.
@@ -348,6 +347,7 @@ pub(crate) fn read_documents<'a>(
 /// common, or one has a marker, for each extra or group and requirement.
 ///
 /// Allocates.
+#[tactic(auto, using(crate::proofs::Holding::sound_documents))]
 pub fn find_document_problems(alloc: Global, documents: &[Document]) -> Result<Report, AllocError>
     ensures { IfOk result (λ r. IsDocumentsReport (map document_of documents.now) (report_of r)) }
 {

@@ -1,4 +1,4 @@
-//! What a lock says that its project requires, beside the project.
+//! What a lock says that its project requires, and for which Pythons, beside the project.
 ghost use Rattle.std.specs.Prelude.{◌≡◌, map, option_map, option_to_list, ◌∷◌, ◌++◌, [], IfOk, codes, is_some, if◌then◌else◌};
 ghost use Rattle.std.specs.List.{list_any, flat_map, find};
 ghost use Rattle.toml.specs.Data.{as_str, get_member};
@@ -23,7 +23,7 @@ use pyver_projects::table::{inside, items, text, top};
 use std::alloc::{AllocError, Global};
 use toml::{Table, Value};
 
-// ---- a project beside it
+// ---- requirements of both
 
 fn has_specifier(list: &[VersionSpecifier], specifier: &VersionSpecifier) -> bool
     ensures { result ≡ list_any (same_specifier specifier.now) list.now }
@@ -78,7 +78,7 @@ fn is_entered(demand: &Demand, entries: &[LineMeaning]) -> bool
     any_in_lock(demand, entries)
 }
 
-// The section is of the tables that PEP 621 and PEP 735 define.
+// The same, or of a string that asks for extras of the project itself.
 fn is_declared(section: &Section) -> bool
     ensures { result ≡ is_declared (section_of section.now) }
 {

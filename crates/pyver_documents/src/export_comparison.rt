@@ -19,8 +19,8 @@ use std::alloc::{AllocError, Global};
 // A requirements file that a tool made, and what its lines ask for.
 #[derive(Drop)]
 struct Export<'a> {
-    pub(crate) file: &'a SourceFile,
-    pub(crate) demands: Vec<Demand>,
+    file: &'a SourceFile,
+    demands: Vec<Demand>,
 }
 
 // Adds the requirement beside the packages of its name, if it names another version, or, if the export was made of this lock, there are none.

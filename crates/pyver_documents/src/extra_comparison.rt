@@ -9,13 +9,13 @@ ghost use Rattle.pyver_projects.specs.ProjectStrings.{section_of, inclusion_of, 
 
 use crate::document_reading::{ExtraReading, StringReading};
 use crate::entries::push_requirement_fault;
-use crate::known_projects::contains_name;
 use crate::lack::push_lack_without_marker;
 use crate::lock_comparison::{
     IndexedLock, is_locked, is_needed, is_overridden, push_unmet_meaning,
 };
 use crate::locked_reading::LockedReading;
 use pyver_findings::{Demand, Finding, LineMeaning};
+use pyver_locks::lock_faults::contains_name;
 use pyver_locks::locked_package::LockParts;
 use pyver_locks::package_extras::push_extra_keys;
 use pyver_projects::inclusions::{Inclusion, InclusionIndex, included_groups, push_inclusions_by};

@@ -1,10 +1,11 @@
 //! The projects that are checked, and what by them is not asked of a lock.
-ghost use Rattle.std.specs.Prelude.{◌≡◌, ◌++◌, ◌∷◌, [], IfOk, map, option_map, option_to_list, bytes_eq};
+ghost use Rattle.std.specs.Prelude.{◌≡◌, ◌++◌, ◌∷◌, [], IfOk, map, option_map, option_to_list};
 ghost use Rattle.std.specs.List.{list_any, flat_map};
 ghost use Rattle.pyver_documents.specs.Comparing.{is_project_reading, names_read, overrides_read, is_excused, is_installer};
 ghost use Rattle.pyver_documents.specs.DocumentViews.{document_reading_of, reading_in, excuses};
 
 use crate::document_reading::{DocumentReading, ReadDocument};
+use pyver_locks::lock_faults::contains_name;
 use std::alloc::{AllocError, Global};
 
 // The projects that are checked: whether there are some, and the names that they have and override.
@@ -113,13 +114,6 @@ fn collect_names(
         push_overridden_names(alloc, &mut overridden, &document.reading)?;
     }
     Ok((names, overridden))
-}
-
-// The name is one of these.
-pub(crate) fn contains_name(names: &[Vec<u8>], name: &[u8]) -> bool
-    ensures { result ≡ list_any (λ known. bytes_eq name.now known.items) names.now }
-{
-    names.iter().any(|known| name == known.as_slice())
 }
 
 impl KnownProjects {

@@ -1,7 +1,8 @@
 //! What is wrong in the documents of a project: `pyproject.toml`, a Pipfile and locks, each by itself and one beside the other.
 //!
-//! In reading order: `DocumentKind`, `kind_of_path` and `kind_of_word`; `Document`, `find_document_problems` and
-//! `find_export_problems`; and `laws`.
+//! In reading order: `document_kind`; `document_reading`, `locked_reading` and `groups`; `together`, a project by itself; `known_projects`,
+//! `lock_comparison`, `extra_comparison`, `lack`, `stale_lock` and `entries`, a project beside a lock; `document_report` and
+//! `export_comparison`, the two calls; and `laws`.
 #![tactic(auto)]
 
 mod document_kind;

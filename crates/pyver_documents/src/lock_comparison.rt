@@ -21,7 +21,7 @@ use crate::stale_lock::{in_one_folder, push_stale_in_pair};
 use crate::together::is_standard;
 use pep440_rs::Version;
 use pyver_findings::{Conflict, Demand, FileLine, Finding, LineMeaning};
-use pyver_locks::lock_faults::is_listed_part;
+use pyver_locks::lock_faults::contains_name;
 use pyver_locks::lock_kind::LockKind;
 use pyver_locks::locked_package::LockParts;
 use pyver_projects::project::{EntryTool, Section, is_project_name};
@@ -155,9 +155,9 @@ pub(crate) fn is_needed(kind: LockKind, parts: &[Vec<u8>], section: &Section) ->
     ensures { result ≡ is_needed kind (map (λ n. n.items) parts.now) (section_of section.now) }
 {
     match section {
-        Section::Dependencies => !names_groups(kind, parts) || is_listed_part(parts, b"default"),
-        Section::Extra(name) => locks_extras(kind) || is_listed_part(parts, name.as_slice()),
-        Section::Group(name) => locks_groups(kind) || is_listed_part(parts, name.as_slice()),
+        Section::Dependencies => !names_groups(kind, parts) || contains_name(parts, b"default"),
+        Section::Extra(name) => locks_extras(kind) || contains_name(parts, name.as_slice()),
+        Section::Group(name) => locks_groups(kind) || contains_name(parts, name.as_slice()),
         Section::Entry(tool, _, _) => locks_entries(*tool, kind),
         _ => false,
     }

@@ -300,7 +300,7 @@ fn report_fault(alloc: Global, name: &[u8], fault: &LockFault) -> Result<LineMea
     Ok(LineMeaning::IsNone(Finding::NoRequirement(line, reason, 0)))
 }
 
-// Adds what is wrong with packages beside one another, of the lock with this name.
+// Adds what is wrong in the lock with this name.
 pub(crate) fn push_faults(
     alloc: Global,
     readings: &mut Vec<LineMeaning>,

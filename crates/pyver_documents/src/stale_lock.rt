@@ -1,4 +1,4 @@
-//! Locks that have another hash than their project.
+//! Locks that are out of date: by their hash, their Pythons or their project's requirements.
 ghost use Rattle.std.specs.Prelude.{◌≡◌, IfOk, ◌++◌, map, option_map};
 ghost use Rattle.toml.specs.View.{table_view};
 ghost use Rattle.pyver_documents.specs.Comparing.{hash_number, stale_finding, stale_by, stale_beside, in_one_folder, stale_in_pair};
@@ -83,7 +83,7 @@ fn push_stale(
     Ok(())
 }
 
-// The same, if the first document is a project, and the second this lock.
+// Adds in what both differ, if the first document is a project, and the second this lock: hash, Pythons, requirements.
 fn push_stale_beside(
     alloc: Global,
     findings: &mut Vec<Finding>,
@@ -111,7 +111,7 @@ pub(crate) fn in_one_folder(one: &Document, other: &Document) -> bool
     folder(one.file.name.as_slice()) == folder(other.file.name.as_slice())
 }
 
-// Adds that the first, if it is a project, does not have the hash of the second, a lock in its folder.
+// Adds in what the first, if it is a project, differs from the second, if that is a lock in its folder.
 pub(crate) fn push_stale_in_pair(
     alloc: Global,
     findings: &mut Vec<Finding>,

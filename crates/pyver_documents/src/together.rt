@@ -12,9 +12,9 @@ ghost use Rattle.pyver_projects.specs.ProjectStrings.{section_of, IsInclusionInd
 
 use crate::document_reading::StringReading;
 use crate::groups::{extra_inclusions, inclusions};
-use crate::known_projects::contains_name;
 use pep440_sets::VersionSet;
 use pyver_findings::{Demand, FileLine, Finding, LineMeaning, push_conflicts};
+use pyver_locks::lock_faults::contains_name;
 use pyver_markers::Domain;
 use pyver_projects::inclusions::{InclusionIndex, included_groups};
 use pyver_projects::project::{Section, copy_name, copy_names};
@@ -184,7 +184,7 @@ fn copy_demand(demand: &Demand) -> Result<Demand, AllocError>
     })
 }
 
-// The section is of the tables that PEP 621 and PEP 735 define.
+// The section is of dependencies, an extra or a group, whose requirements uv and PDM may replace.
 pub(crate) fn is_standard(section: &Section) -> bool
     ensures { result ≡ is_standard (section_of section.now) }
 {

@@ -52,7 +52,7 @@ pub record LockedFile : Type 0 where
   pub file : List ℕ
   pub written : List ℕ
 
--- what is wrong with a locked package beside others: the number of its line, what is shown of it, and why
+-- what is wrong in a lock: the number of its line, what is shown of it, and why
 pub record LockFault : Type 0 where
   pub line : ℕ
   pub text : List ℕ

@@ -283,40 +283,16 @@ fn pdm_members(
     ensures { IfOk result (λ texts. map (λ p. p.items) texts.items ≡ pdm_members (option_map (λ v. view v.now) project.entry) (option_map (λ v. view v.now) groups.entry) (option_map (λ v. view v.now) pdm.entry)) }
 {
     let mut members = Vec::new(alloc);
-    let dependencies = inside(project, "dependencies");
+    let required = inside(project, "dependencies");
+    let resolution = inside(pdm, "resolution");
+    let sources = inside(pdm, "source");
     let all = group_members(alloc, groups, pdm)?;
-    push_value_or(
-        alloc,
-        &mut members,
-        BLANK,
-        "[]",
-        "dependencies",
-        dependencies,
-    )?;
-    push_object(
-        alloc,
-        &mut members,
-        BLANK,
-        "dev-dependencies",
-        all.as_slice(),
-    )?;
+    let all = all.as_slice();
+    push_value_or(alloc, &mut members, BLANK, "[]", "dependencies", required)?;
+    push_object(alloc, &mut members, BLANK, "dev-dependencies", all)?;
     push_project_members(alloc, &mut members, project)?;
-    push_value_or(
-        alloc,
-        &mut members,
-        BLANK,
-        "{}",
-        "resolution",
-        inside(pdm, "resolution"),
-    )?;
-    push_value_or(
-        alloc,
-        &mut members,
-        BLANK,
-        "[]",
-        "sources",
-        inside(pdm, "source"),
-    )?;
+    push_value_or(alloc, &mut members, BLANK, "{}", "resolution", resolution)?;
+    push_value_or(alloc, &mut members, BLANK, "[]", "sources", sources)?;
     Ok(members)
 }
 
@@ -385,7 +361,7 @@ fn has_plain_keys(alloc: Global, packages: &Table) -> Result<bool, AllocError>
     Ok(true)
 }
 
-// The names of packages in the table, if there is one.
+// Each name of a package in the table, if there is one, is in normal form.
 fn has_plain_names(alloc: Global, packages: Option<&Value>) -> Result<bool, AllocError>
     ensures { IfOk result (λ b. b ≡ has_plain_names (option_map (λ v. view v.now) packages.entry)) }
 {
@@ -644,7 +620,7 @@ pub fn hash_key(rule: HashRule) -> &'static str
     }
 }
 
-/// The path of the table that has the hash.
+/// The path of the table that has the hash in a TOML lock, with a dot after each key. `Pipfile.lock` has no such table.
 ///
 /// Allocates nothing.
 pub fn hash_table(rule: HashRule) -> &'static [u8]

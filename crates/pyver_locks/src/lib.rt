@@ -1,7 +1,7 @@
 //! What locks hold: `pylock.toml`, `uv.lock`, `poetry.lock`, `pdm.lock` and `Pipfile.lock`.
 //!
-//! In reading order: `LockKind`; what is read, in `locked_package`; `toml_lock` and `pipfile_lock`, which read it; the hash of a
-//! project, in `content_hash`; and `known_environment`.
+//! In reading order: `lock_kind`; what is read, in `locked_package`; `toml_lock` and `pipfile_lock`, which read it, with `lock_faults`,
+//! `package_requirements`, `package_extras` and `own_entries`; `known_environment`; and the hash of a project, in `content_hash` over `json_text`.
 #![tactic(auto)]
 
 pub mod content_hash;

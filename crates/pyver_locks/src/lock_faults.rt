@@ -1,4 +1,4 @@
-//! The names of projects, the groups of locks, and what is wrong with locked packages of one name.
+//! The parts of a project that a lock has, for which Pythons it is, and what is wrong with locked packages, by themselves and beside others of one name.
 ghost use Rattle.std.specs.Prelude.{◌≡◌, IfOk, option_map, string_bytes, map, ◌++◌, ◌∷◌, Some, bytes_eq, option_to_list, ◌&&◌, codes, is_none};
 ghost use Rattle.std.specs.List.{flat_map, list_any};
 ghost use Rattle.toml.specs.Data.{as_str, get_member};
@@ -167,13 +167,13 @@ fn push_names(alloc: Global, names: &mut Vec<Vec<u8>>, list: &[Value]) -> Result
     Ok(())
 }
 
-/// Whether the name is among these parts.
+/// Whether the name is one of these.
 ///
 /// Allocates nothing.
-pub fn is_listed_part(parts: &[Vec<u8>], name: &[u8]) -> bool
-    ensures { result ≡ list_any (λ part. bytes_eq name.now part.items) parts.now }
+pub fn contains_name(names: &[Vec<u8>], name: &[u8]) -> bool
+    ensures { result ≡ list_any (λ known. bytes_eq name.now known.items) names.now }
 {
-    parts.iter().any(|part| name == part.as_slice())
+    names.iter().any(|known| name == known.as_slice())
 }
 
 // It is none of these, nor PDM's name for the dependencies.
@@ -181,7 +181,7 @@ pub fn is_listed_part(parts: &[Vec<u8>], name: &[u8]) -> bool
 fn is_new_group(named: &[Vec<u8>], name: &[u8]) -> bool
     ensures { result ≡ is_new_group (map (λ n. n.items) named.now) name.now }
 {
-    name != b"default".as_slice() && !is_listed_part(named, name)
+    name != b"default".as_slice() && !contains_name(named, name)
 }
 
 fn has_new_group(named: &[Vec<u8>], names: &[Vec<u8>]) -> bool

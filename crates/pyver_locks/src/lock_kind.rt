@@ -13,6 +13,6 @@ pub enum LockKind {
     Pdm,
     /// `Pipfile.lock`.
     Pipfile,
-    /// Any other file with the ending of a document. It is not read.
+    /// Any other file that is given as a lock. It is not read.
     Unknown,
 }

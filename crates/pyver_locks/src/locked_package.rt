@@ -1,4 +1,4 @@
-//! Packages in locks and what they require, as it is written.
+//! What is read of a lock: packages, what they require, and files in whose names another version stands.
 ghost use Rattle.std.specs.Prelude.{◌≡◌, IfOk, option_map, ◌++◌, map, option_to_list, bytes_eq, codes, false};
 ghost use Rattle.std.specs.Option.{option_map_or};
 ghost use Rattle.toml.specs.View.{view};
@@ -45,7 +45,8 @@ pub struct LockedRequirement {
     pub extras: Vec<String>,
     /// The list of specifiers; empty if it has none.
     pub list: String,
-    /// It only refers to a package, which may have a marker.
+    /// It only refers to a package, which may have a marker (PEP 751, `packages.dependencies`), or, in `entries`, has a source of its own: its list
+    /// does not count.
     pub is_reference: bool,
 }
 
@@ -70,10 +71,10 @@ pub struct LockedFile {
     pub written: String,
 }
 
-/// What is wrong with a package in a lock beside others.
+/// What is wrong in a lock: with a package by itself or beside others, or with a value of another type.
 #[derive(Drop)]
 pub struct LockFault {
-    /// The number of the line of the package, from 1.
+    /// The number of the line of the package or the value, from 1; 1 if none is known.
     pub line: u64,
     /// What is shown of it.
     pub text: Vec<u8>,
@@ -138,7 +139,7 @@ pub struct LockContents {
     pub faults: Vec<LockFault>,
 }
 
-/// The name and the version.
+/// The name, and after a blank the version, if there is one.
 ///
 /// Allocates.
 pub fn package_text(alloc: Global, name: &str, version: Option<&str>) -> Result<Vec<u8>, AllocError>

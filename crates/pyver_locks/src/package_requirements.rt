@@ -15,7 +15,7 @@ use crate::locked_package::{LockParts, LockedRequirement, package_text};
 use pep440_pick::is_name;
 use pyver_projects::own_extras::{is_conditional, string_extras};
 use pyver_projects::requirement_strings::{
-    is_name_byte, lacks, poetry_list, split_at_byte, split_name, text_or_empty,
+    lacks, poetry_list, split_at_byte, split_name, text_or_empty,
 };
 use pyver_projects::table::{inside, items, listed_strings, table, text};
 use std::alloc::{AllocError, Global};

@@ -300,7 +300,7 @@ fn pipfile_hash(alloc: Global, document: &Value) -> Result<Option<ContentHash>, 
     hash_by(alloc, HashRule::Pipenv, hash_text(document))
 }
 
-/// What a lock with these lines has.
+/// What `Pipfile.lock` has, which is this document, with these lines of its strings: packages, faults and the hash of its Pipfile.
 ///
 /// Allocates.
 pub fn pipfile_contents(

@@ -156,7 +156,8 @@ fn array_faults(
     Ok(faults)
 }
 
-/// What a lock of this kind with this text has: packages at the key, each under the header.
+/// What a lock of this kind has, whose text is this document: packages in the array of tables at the key, each at a line that begins with the
+/// header, as `[[package]]`.
 ///
 /// Allocates.
 pub fn toml_contents(

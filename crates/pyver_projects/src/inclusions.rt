@@ -1,4 +1,4 @@
-//! Names of groups and extras, and which includes which.
+//! Names of groups and extras, which includes which, and which tools have tables.
 ghost use Rattle.std.specs.Prelude.{◌≡◌, IfOk, ◌++◌, map, [], bytes_eq, ◌∷◌, List, ℕ, if◌then◌else◌, count_by, nat_lt, ◌&&◌};
 ghost use Rattle.std.specs.HashMap.{get_by};
 ghost use Rattle.std.specs.List.{filter, list_any};
@@ -13,7 +13,7 @@ use std::alloc::{AllocError, Global};
 use std::collections::HashMap;
 use toml::Table;
 
-/// One group includes another, or one extra. Names are in their normal form.
+/// One group includes another, or one extra. Both are names in their normal form, or keys of extras of packages.
 #[derive(Drop)]
 pub struct Inclusion {
     pub group: Vec<u8>,
@@ -266,7 +266,7 @@ fn next_groups<'a>(
     Ok(found)
 }
 
-/// The names of the group and of all that it includes. Each group is taken once.
+/// The names of the group and of all that it includes, itself or through others, each once.
 ///
 /// Allocates.
 pub fn included_groups<'a>(

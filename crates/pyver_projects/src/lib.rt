@@ -1,7 +1,7 @@
 //! What a project asks for: the strings of its `pyproject.toml` or Pipfile, and on which lines they stand.
 //!
-//! In reading order: `table`, values of TOML; `requirement_strings`; `project` and `tool_tables`, the strings of a document;
-//! `own_extras`, and `inclusions` of groups; and `place`, their lines.
+//! In reading order: `table`, values of TOML; `requirement_strings`; `inclusions`, names; `project`, strings of the standards' tables;
+//! `poetry_marker`, `tool_tables` and `environments`, strings of tools; `own_extras`, all strings; and `place`, their lines.
 #![tactic(auto)]
 
 mod environments;

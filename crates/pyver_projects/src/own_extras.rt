@@ -1,4 +1,4 @@
-//! Extras of a project that it asks for itself.
+//! The strings of a project, also those that ask for its own extras, and the names of its extras.
 ghost use Rattle.std.specs.Prelude.{◌≡◌, codes, option_copied, IfOk, map, string_bytes, bytes_eq, option_map, option_to_list, false};
 ghost use Rattle.std.specs.Char.{is_ascii_whitespace};
 ghost use Rattle.std.specs.List.{list_any};
@@ -58,7 +58,7 @@ pub fn string_extras(alloc: Global, text: &str) -> Result<Vec<String>, AllocErro
     copy_extras(alloc, in_brackets(skip_blanks(rest)))
 }
 
-/// Whether the string has a marker or a URL (PEP 508).
+/// Whether the string has a `;` or an `@`, as one with a marker or a URL has (PEP 508).
 ///
 /// Allocates nothing.
 pub fn is_conditional(text: &str) -> bool
@@ -178,7 +178,7 @@ pub fn project_strings(alloc: Global, document: &Table) -> Result<Vec<ProjectStr
     Ok(found)
 }
 
-/// The names of the extras of the document, by PEP 621 or as Poetry has them.
+/// The names of the extras of the document, in their normal form: of `project.optional-dependencies` (PEP 621), then of `tool.poetry.extras`.
 ///
 /// Allocates.
 #[tactic(auto, using(crate::proofs::Walks::joined_views))]

@@ -67,7 +67,7 @@ fn opened_string(text: &[u8]) -> Option<&[u8]>
     }
 }
 
-/// The number of the line after this.
+/// The number, from 1, of the line on which what follows these bytes stands.
 ///
 /// Allocates nothing.
 pub fn line_after(before: &[u8]) -> usize
@@ -138,7 +138,7 @@ fn key_bytes(alloc: Global, key: &[u8]) -> Result<Vec<u8>, AllocError>
         .collect(alloc)
 }
 
-/// The path of a key in the table, or of the name of a table in another.
+/// The path of the table, then the key without blanks, quotes and `[`, then a dot.
 ///
 /// Allocates.
 pub fn key_path(alloc: Global, table: &[u8], key: &[u8]) -> Result<Vec<u8>, AllocError>
@@ -386,7 +386,8 @@ fn quoted_line(places: &Places, string: &[u8]) -> Option<usize>
     places.quoted.numbers.get(string).copied()
 }
 
-/// The number of the line of a string: a key has its own, another string the first on which it opens, or the line of what it stands in.
+/// The number of the line of a string: a key has its own, another string the first on which it opens, or the line of what it stands in; 1
+/// without one.
 ///
 /// Allocates.
 pub fn string_number(
@@ -427,20 +428,4 @@ pub fn header_lines(alloc: Global, header: &[u8], text: &[u8]) -> Result<Vec<u64
         }
     }
     Ok(lines)
-}
-
-/// The position of the byte in this column of this line, both from 1.
-///
-/// Allocates nothing.
-pub fn position_of(text: &[u8], line: usize, column: usize) -> usize {
-    let mut number: usize = 1;
-    for (at, byte) in text.iter().enumerate() {
-        if number == line {
-            return at.saturating_add(column.saturating_sub(1));
-        }
-        if *byte == b'\n' {
-            number = number.saturating_add(1);
-        }
-    }
-    text.len()
 }

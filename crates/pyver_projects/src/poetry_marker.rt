@@ -14,7 +14,7 @@ ghost use Rattle.pyver_requirements.specs.MarkerTokens.{is_operator_byte};
 ghost use Rattle.pyver_projects.specs.declared.project.EntryTool.TheVariants as of_entries;
 
 use crate::project::EntryTool;
-use crate::requirement_strings::{is_name_byte, plain_list, poetry_list};
+use crate::requirement_strings::{is_name_byte, plain_list, poetry_list, text_or_empty};
 use crate::table::{is_text_or_none, text};
 use std::alloc::{AllocError, Global};
 use toml::Value;
@@ -282,10 +282,7 @@ fn both_markers(alloc: Global, marker: &str, other: &str) -> Result<String, Allo
 fn condition<'a>(entry: &'a Value, key: &str) -> &'a str
     ensures { result.now ≡ condition key.now (view entry.now) }
 {
-    match text(entry.get(key)) {
-        Some(condition) => condition,
-        None => "",
-    }
+    text_or_empty(text(entry.get(key)))
 }
 
 // The conditions of an entry of Poetry as one marker.

@@ -1,4 +1,4 @@
-//! What is read of `pyproject.toml`, or of a Pipfile.
+//! The strings of `pyproject.toml` in the tables of its standards, and all of a document as they are written.
 ghost use Rattle.std.specs.Prelude.{◌≡◌, bytes_eq, option_map, option_to_list, IfOk, map, ◌∷◌, ◌++◌, [], codes, Some, string_bytes, length, nat_eq};
 ghost use Rattle.std.specs.List.{list_any, flat_map};
 ghost use Rattle.pep440_pick.specs.Names.{normal};
@@ -16,10 +16,10 @@ use pyver_requirements::Cause;
 use std::alloc::{AllocError, Global};
 use toml::{Table, Value};
 
-#[tactic(auto, using(crate::proofs::Walks::or_none))]
 /// Whether the project has this name.
 ///
 /// Allocates nothing.
+#[tactic(auto, using(crate::proofs::Walks::or_none))]
 pub fn is_project_name(project: &Option<Vec<u8>>, name: &[u8]) -> bool
     ensures { result ≡ list_any (bytes_eq name.now) (option_to_list (option_map (λ n. n.items) project.now)) }
 {
@@ -57,14 +57,15 @@ pub enum EntryTool {
     Pipenv,
 }
 
-/// The part of `pyproject.toml` or a Pipfile that a string stands in. Names are in their normal form.
+/// The part of `pyproject.toml` or a Pipfile that a string stands in. Names of extras and groups are in their normal form; the key of an entry is
+/// as it is written.
 #[derive(Drop)]
 pub enum Section {
     /// In `project.dependencies`.
     Dependencies,
     /// In `project.optional-dependencies`, in the array of this extra.
     Extra(Vec<u8>),
-    /// In `dependency-groups`, in the array of this group.
+    /// In the array of this group: in `dependency-groups` (PEP 735), or in `dev-dependencies` of `tool.uv`, `tool.rye` (both `dev`) or `tool.pdm`.
     Group(Vec<u8>),
     /// There, as the name of a group that is included: this group includes that one.
     Include(Vec<u8>, Vec<u8>),
@@ -88,7 +89,8 @@ pub enum Section {
     Version,
 }
 
-/// A string there that is to be a requirement, a list of specifiers or a version.
+/// A string, and the part that it stands in: it is to be a requirement, of an `Entry` one made of it, a list of specifiers or a version. It is a
+/// name for `Include` and `Invalid`, and empty for `Unread`.
 #[derive(Drop)]
 pub struct ProjectString {
     pub section: Section,

@@ -26,7 +26,7 @@ pub fn copy_text(alloc: Global, text: Option<&str>) -> Result<Option<String>, Al
     }
 }
 
-/// What stands before the first such character, which is to be ASCII, and what after it.
+/// What stands before the first such character, which is to be ASCII, and what after it; none without one.
 ///
 /// Allocates nothing.
 pub fn split_at_byte(text: &str, character: char) -> Option<(&str, &str)>
@@ -73,7 +73,7 @@ fn push_extras_text(text: &mut String, extras: &[String]) -> Result<(), AllocErr
     text.push_str("]")
 }
 
-/// The name with the extras.
+/// The name, and the extras in brackets with commas between them, if there are some (PEP 508, "Extras").
 ///
 /// Allocates.
 pub fn name_with_extras(alloc: Global, name: &str, extras: &[String]) -> Result<String, AllocError>
@@ -84,7 +84,7 @@ pub fn name_with_extras(alloc: Global, name: &str, extras: &[String]) -> Result<
     Ok(text)
 }
 
-/// Whether nothing stands at the key.
+/// Whether the value has nothing at the key, as one that is no table.
 ///
 /// Allocates nothing.
 pub fn lacks(value: &Value, key: &str) -> bool
@@ -122,7 +122,7 @@ fn is_zero(number: &str) -> bool
     !has_counted(number.as_bytes())
 }
 
-/// The text up to the first such character, which is to be ASCII, and what follows this.
+/// The text before the first such character, which is to be ASCII, and what follows it; all and nothing without one.
 ///
 /// Allocates nothing.
 pub fn cut_at(text: &str, character: char) -> (&str, &str)
@@ -281,7 +281,8 @@ fn tilde_list(alloc: Global, list: &str) -> Result<String, AllocError>
     }
 }
 
-/// The list of PEP 440 that a list of Poetry stands for.
+/// The list of PEP 440 that a list of Poetry stands for ("Dependency specification" of Poetry): `^1.2` is `>=1.2,==1.*`, `~1.2.3` is
+/// `>=1.2.3,==1.2.*`, `1.2` is `==1.2`, `*` is empty. Only its start is changed; other syntax stays, and is none.
 ///
 /// Allocates.
 pub fn poetry_list(alloc: Global, list: &str) -> Result<String, AllocError>
@@ -293,7 +294,7 @@ pub fn poetry_list(alloc: Global, list: &str) -> Result<String, AllocError>
     }
 }
 
-/// A name, and a list if that is not empty.
+/// The name, and after a blank the list, unless that is empty.
 ///
 /// Allocates.
 pub fn requirement_text(alloc: Global, name: &str, list: &str) -> Result<String, AllocError>
@@ -326,10 +327,8 @@ fn count_name_bytes(text: &[u8]) -> usize
     text.iter().take_while(|byte| is_name_byte(**byte)).count()
 }
 
-/// Whether the byte may stand in a name.
-///
-/// Allocates nothing.
-pub fn is_name_byte(byte: u8) -> bool
+// A byte that may stand in a name.
+pub(crate) fn is_name_byte(byte: u8) -> bool
     ensures { result ≡ is_name_byte byte }
 {
     byte.is_ascii_alphanumeric() || matches!(byte, b'-' | b'_' | b'.')

@@ -709,7 +709,8 @@ pub(crate) fn names_in(alloc: Global, value: Option<&Value>) -> Result<Vec<Vec<u
     }
 }
 
-/// The names whose versions the project sets itself, for uv or for PDM.
+/// The names whose versions the project sets itself, in their normal form: those with which strings of `tool.uv.override-dependencies` begin,
+/// then the keys of `tool.pdm.resolution.overrides`.
 ///
 /// Allocates.
 #[tactic(auto, using(crate::proofs::Walks::joined_views))]
