@@ -381,10 +381,10 @@ uint8_t pep440_release_range_bounds(const uint8_t *list, size_t length, uint8_t 
    for it, with null and a size of 0. `>=1.0, <2.0` takes 44 bytes.
 
    A set by itself has format 7: the byte 7, and its keys as in a list of format 6. The calls on sets
-   write and take it, and pep440_allows takes it; all others, which need the members of a list, return
-   PEP440_NO_LIST.
+   write and take it, and pep440_allows takes it; all others that take a list return PEP440_NO_LIST,
+   but for pep440_error, which writes why it is none.
 
-   Lists without `===` that an earlier library wrote have format 5, too. Every call takes them, but
+   Lists without `===` may have format 5, too, as the Rust crate makes them. Every call takes them, but
    pep440_allows then costs what it does of a string; pep440_compile_list writes format 6 of them.
 
    Bytes denote at most one version or one list, and two strings have the same compiled bytes
@@ -398,8 +398,10 @@ uint8_t pep440_release_range_bounds(const uint8_t *list, size_t length, uint8_t 
    of a compiled list, and pep440_allows and the calls on sets of formats 6 and 7 read them as they
    lie: of bytes that begin as a compiled form and are none they write any result, or return the
    status of an invalid one. The first four allocate nothing then, nor for a version that is a string
-   in a normal spelling, of which pep440_compare also takes two. All other calls reject such bytes. So
-   give bytes of unknown origin to pep440_normalize or pep440_normalize_list once. */
+   in normal form whose compiled form has at most 64 bytes, with at most four release numbers and no
+   number above 2147483647, of which pep440_compare also takes two. All other calls reject such bytes.
+   So give bytes of unknown origin to pep440_normalize or pep440_normalize_list once. No call tests a
+   set by itself: make it anew of lists. */
 
 /* How many bytes suffice, by the length of a string: for the normal form of a version, for its sort
    key, and for its compiled form. */

@@ -1,5 +1,5 @@
 /* Null beside a length of 0 is an empty string, batch or buffer in each call, as the header says. The proof holds of pointers that point to
-   something (docs/DECISIONS.md), so this is tested of each build of the library. */
+   something (docs/PROMISES.md), so this is tested of each build of the library. */
 #include <stdio.h>
 #include <stdlib.h>
 #include <string.h>
