@@ -15,6 +15,9 @@ mod scan;
 pub use allowed_range::{add_members, allowed};
 pub use candidates::{is_preferred, newest};
 pub use error::{RequirementError, RequirementParseError};
-pub use name::{is_name, normalize_bytes, normalize_name, normalize_names, same_name};
+pub use name::{
+    is_name, is_name_byte, normalize_bytes, normalize_name, normalize_names, same_name,
+};
 pub use requirement::Requirement;
 pub use requirement_parts::copy_extras;
+pub use scan::{split_at_byte, split_name};

@@ -16,8 +16,10 @@ fn is_separator(byte: u8) -> bool
     matches!(byte, b'.' | b'-' | b'_')
 }
 
-// A byte that may stand in a name.
-pub(crate) fn is_name_byte(byte: u8) -> bool
+/// Whether the byte may stand in a name: an ASCII letter or digit, `.`, `-` or `_`.
+///
+/// Allocates nothing.
+pub fn is_name_byte(byte: u8) -> bool
     ensures { result ≡ is_name_byte byte }
 {
     byte.is_ascii_alphanumeric() || is_separator(byte)

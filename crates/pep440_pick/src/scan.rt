@@ -31,10 +31,12 @@ fn count_name_bytes(text: &[u8]) -> usize
     text.iter().take_while(|byte| is_name_byte(**byte)).count()
 }
 
-// The longest run of bytes of names at the start, and what follows it.
-pub(crate) fn split_name(text: &str) -> (&str, &str)
-    ensures prefix { result.0.now ≡ lead is_name_byte text.now }
-    ensures back { result.1.now ≡ past is_name_byte text.now }
+/// The longest run of bytes of names at the start, and what follows it.
+///
+/// Allocates nothing.
+pub fn split_name(text: &str) -> (&str, &str)
+    ensures name { result.0.now ≡ lead is_name_byte text.now }
+    ensures rest { result.1.now ≡ past is_name_byte text.now }
 {
     text.split_at(count_name_bytes(text.as_bytes()))
 }
@@ -48,8 +50,10 @@ pub(crate) fn are_blanks(text: &str) -> bool
         .all(|byte| byte.is_ascii_whitespace())
 }
 
-// What comes before the first such character, and what after it.
-pub(crate) fn split_at_byte(text: &str, character: char) -> Option<(&str, &str)>
+/// What stands before the first such character, which is to be ASCII, and what after it; none without one.
+///
+/// Allocates nothing.
+pub fn split_at_byte(text: &str, character: char) -> Option<(&str, &str)>
     requires { character < 128 }
     ensures { option_map (λ x. (x.0.now, x.1.now)) result ≡ split_at_byte character text.now }
 {

@@ -1,5 +1,5 @@
 -- Lists beside lists, lists that are made of each element, strings that are read one after another, and names that are known, repeated or those of packages.
-use Rattle.std.proofs.Common.{List, [], refl, ◌++◌, ◌+◌, ◌∷◌, ◌≡◌, Bool, false, true, ◌||◌, ap, map, ◌&&◌, arith, get_or, length, subst, suc, zero, ℕ, ◌<◌, sym, ◌-◌, take, take_all, ◌∙◌, ◌≤◌, if◌then◌else◌, None, Option, Some, is_none, IfSome, inr, inl, Err, IfOk, Ok, Result, ◌⊎◌, cond, not, ◌==◌, Bor, Vec, bytes_eq, nat_lt}
+use Rattle.std.proofs.Common.{List, [], refl, ◌++◌, ◌+◌, ◌∷◌, ◌≡◌, Bool, false, true, ◌||◌, ap, map, ◌&&◌, arith, get_or, length, subst, suc, zero, ℕ, ◌<◌, sym, ◌-◌, take, take_all, drop, ◌∙◌, ◌≤◌, if◌then◌else◌, None, Option, Some, is_none, IfSome, inr, inl, Err, IfOk, Ok, Result, ◌⊎◌, cond, not, ◌==◌, Bor, Vec, bytes_eq, nat_lt}
 use Rattle.std.proofs.lemmas.Bool.{true≢false, and_parts, false_from_ne_true}
 use Rattle.std.proofs.lemmas.List.{map-append, take_more, length-map}
 use Rattle.std.proofs.lemmas.List.Elements.{All-cons, All-head, All-nil, All-tail, All-append}
@@ -92,25 +92,23 @@ pub paired : {L M B C : Type 0} (view : L → B) (show : M → B) (other : M →
     → zip (map view xs) (map other ys) ≡ map (λ y. (show y, other y)) ys
 paired view show other xs i ys end alike = (λ j. zip (sym (alike ∙ ap (map view) (take_all i xs end)) j) (map other ys)) ∙ zip_of show other ys
 
--- what stands after the last `/` is no longer than all
-pub section_fits : (path : List ℕ) → length (last_section path) ≤ length path
-section_fits [] = omega arith
-section_fits (b ∷ rest) = fits_by (has_slash (b ∷ rest)) b rest (section_fits rest)
+-- the folder is no longer than the path
+pub folder_fits : (path : List ℕ) → length (folder path) ≤ length path
+folder_fits [] = omega arith
+folder_fits (b ∷ rest) = fits_by (has_slash (b ∷ rest)) (folder_fits rest)
   where
-    fits_by : (c : Bool) (b : ℕ) (rest : List ℕ) → length (last_section rest) ≤ length rest → length (if c then last_section rest else b ∷ rest) ≤ suc (length rest)
-    fits_by true b rest k = omega (arith, k)
-    fits_by false b rest k = omega arith
+    fits_by : (c : Bool) → length (folder rest) ≤ length rest → length (if c then b ∷ folder rest else []) ≤ suc (length rest)
+    fits_by true k = omega (arith, k)
+    fits_by false k = omega arith
 
--- what stands before it is the folder
-pub folder_is : (path : List ℕ) → take (length path - length (last_section path)) path ≡ folder path
-folder_is [] = refl
-folder_is (b ∷ rest) = by (folder_is rest) (has_slash (b ∷ rest))
+-- what follows it is the last section
+pub section_is : (path : List ℕ) → drop (length (folder path)) path ≡ last_section path
+section_is [] = refl
+section_is (b ∷ rest) = by (section_is rest) (has_slash (b ∷ rest))
   where
-    by : take (length rest - length (last_section rest)) rest ≡ folder rest → (c : Bool) → take (suc (length rest) - length (if c then last_section rest else b ∷ rest)) (b ∷ rest) ≡ (if c then b ∷ folder rest else [])
-    by is true =
-        let less : suc (length rest) - length (last_section rest) ≡ suc (length rest - length (last_section rest)) = omega (arith, section_fits rest) in
-        ap (λ n. take n (b ∷ rest)) less ∙ ap (λ front. b ∷ front) is
-    by is false = let none : suc (length rest) - suc (length rest) ≡ 0 = omega arith in ap (λ n. take n (b ∷ rest)) none
+    by : drop (length (folder rest)) rest ≡ last_section rest → (c : Bool) → drop (length (if c then b ∷ folder rest else [])) (b ∷ rest) ≡ (if c then last_section rest else b ∷ rest)
+    by is true = is
+    by is false = refl
 
 -- what holds of each element holds of those beside them
 pub zip_each : {X Y : Type 0} (R : X → Y → Type 0) (K : X → Type 0) (Q : Y → Type 0) → ((x : X) (y : Y) → K x → R x y → Q y) → (xs : List X) (ys : List Y) → All K xs → AllZip R xs ys → All Q ys

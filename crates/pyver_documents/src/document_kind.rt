@@ -4,10 +4,9 @@ ghost use Rattle.std.specs.List.{list_any};
 ghost use Rattle.pyver_documents.specs.Comparing.{same_lock_kind, same_kind, is_below, is_nearer, is_project, project_at, is_beside, counts_for};
 ghost use Rattle.pyver_documents.specs.DocumentKinds.{ends_path, lies_above, is_named_pylock, is_document_path, kind_of_path, kind_of_word};
 ghost use Rattle.pyver_documents.specs.DocumentViews.{document_of};
-ghost use Rattle.pyver_findings.specs.NamedFiles.{folder};
-ghost use Rattle.pyver_locks.specs.LockedFiles.{has_slash, last_section};
+ghost use Rattle.pyver_locks.specs.LockedFiles.{last_section};
 
-use pyver_findings::SourceFile;
+use pyver_findings::{SourceFile, folder};
 use pyver_locks::lock_kind::LockKind;
 
 /// The kinds of documents.
@@ -122,31 +121,12 @@ fn ends_path(path: &[u8], name: &[u8], after_slash: &[u8]) -> bool
     path == name || path.ends_with(after_slash)
 }
 
-fn has_slash(path: &[u8]) -> bool
-    ensures { result ≡ has_slash path.now }
-{
-    path.iter().any(|byte| *byte == b'/')
-}
-
+// What follows the last `/`, or all.
+#[tactic(auto, using(crate::proofs::Walks::folder_fits, crate::proofs::Walks::section_is))]
 fn last_section(path: &[u8]) -> &[u8]
     ensures { result.now ≡ last_section path.now }
 {
-    let mut rest = path;
-    while let [_, later @ ..] = rest {
-        if !has_slash(rest) {
-            return rest;
-        }
-        rest = later;
-    }
-    rest
-}
-
-// Up to the last `/`, with it.
-#[tactic(auto, using(crate::proofs::Walks::folder_is, crate::proofs::Walks::section_fits))]
-pub(crate) fn folder(path: &[u8]) -> &[u8]
-    ensures { result.now ≡ folder path.now }
-{
-    &path[..path.len() - last_section(path).len()]
+    &path[folder(path).len()..]
 }
 
 // The first path names a file in the folder of the second, or in one above.

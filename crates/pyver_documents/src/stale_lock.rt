@@ -8,10 +8,10 @@ ghost use Rattle.pyver_locks.specs.ContentHashes.{hash_key, hash_table};
 ghost use Rattle.pyver_locks.specs.LockContents.{content_hash_of};
 ghost use Rattle.pyver_projects.specs.ProjectStrings.{key_line, key_path, number_or_one};
 
-use crate::document_kind::{Document, folder};
+use crate::document_kind::Document;
 use crate::document_reading::{DocumentReading, ReadDocument};
 use crate::entries::{push_differences, push_python_difference};
-use pyver_findings::{FileLine, Finding, SourceFile};
+use pyver_findings::{FileLine, Finding, SourceFile, folder};
 use pyver_locks::content_hash::{hash_key, hash_table, is_stale};
 use pyver_locks::locked_package::{ContentHash, HashRule};
 use pyver_projects::place::{document_keys, key_path, line_number, number_keys, read_quoted_lines};

@@ -1,16 +1,15 @@
 //! The column at which a requirement, a list or a marker is invalid.
 ghost use Rattle.std.specs.Prelude.{◌≡◌, ◌≤◌, ◌==◌, bytes_eq, drop, length, IfSome};
-ghost use Rattle.std.specs.List.{list_any, prefix_len};
+ghost use Rattle.std.specs.List.{list_any};
 ghost use Rattle.pep440_pick.specs.Requirements.{IsPositioned, IsRequirementLifted, requirement_rejection_of};
 ghost use Rattle.pyver_findings.specs.LineMeanings.{behind_operator, column, list_column, marker_column, operators, rest_in_list};
 ghost use Rattle.pyver_requirements.specs.LineKinds.{line_parts_of};
-ghost use Rattle.pyver_requirements.specs.MarkerTokens.{is_operator_byte};
 ghost use Rattle.pep440_rs.specs.Lists.ListResults.{list_kind_of};
 ghost use Rattle.pep440_rs.specs.Lists.ListErrors.{list_rejection_of};
 
 use pep440_pick::{RequirementError, RequirementParseError};
 use pep440_rs::{SpecifiersErrorKind, VersionSpecifiersParseError};
-use pyver_requirements::LineParts;
+use pyver_requirements::{LineParts, count_operator_bytes};
 
 fn skip_bytes(text: &[u8], count: usize) -> &[u8]
     ensures { result.now ≡ drop count text.now }
@@ -20,21 +19,6 @@ fn skip_bytes(text: &[u8], count: usize) -> &[u8]
     } else {
         &[]
     }
-}
-
-fn is_operator_byte(byte: u8) -> bool
-    ensures { result ≡ is_operator_byte byte }
-{
-    matches!(byte, b'<' | b'=' | b'>' | b'!' | b'~')
-}
-
-fn count_operator_bytes(text: &[u8]) -> usize
-    ensures count { result ≡ prefix_len is_operator_byte text.now }
-    ensures inside { result ≤ length text.now }
-{
-    text.iter()
-        .take_while(|byte| is_operator_byte(**byte))
-        .count()
 }
 
 fn is_operator(text: &[u8]) -> bool

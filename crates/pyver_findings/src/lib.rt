@@ -35,7 +35,7 @@ pub use file_line::{FileLine, SourceFile};
 pub use finding::{Conflict, Finding, FindingKind};
 pub use json_string::push_json_string;
 pub use line_meaning::LineMeaning;
-pub use named_files::{NamedFile, Position, push_named_files};
+pub use named_files::{NamedFile, Position, folder, push_named_files};
 pub use report::{Report, find_problems};
 pub use report_text::{push_number, push_text};
 pub use requirement_line::{parse_requirement, parse_specifiers};

@@ -67,8 +67,10 @@ fn clone_position(position: &Option<Position>) -> Result<Option<Position>, Alloc
     }
 }
 
-// Up to the last `/`, with it.
-fn folder(name: &[u8]) -> &[u8]
+/// The folder of the file with this name: what stands up to the last `/`, with it.
+///
+/// Allocates nothing.
+pub fn folder(name: &[u8]) -> &[u8]
     ensures { result.now ≡ folder name.now }
 {
     let mut front = name;

@@ -6,8 +6,8 @@ ghost use Rattle.pyver_locks.specs.LockContents.{locked_file_of};
 ghost use Rattle.pyver_locks.specs.LockedFiles.{last_section, without_ending, wheel_version, archive_version, file_version, file_path, file_name, new_file, named_file, version_from, files_after, files_in, is_index, is_indexed, files_from};
 ghost use Rattle.pyver_locks.specs.PackageRequirements.{package_text};
 
-use pep440_pick::same_name;
-use pyver_projects::requirement_strings::{first_of, lacks, split_at_byte};
+use pep440_pick::{same_name, split_at_byte};
+use pyver_projects::requirement_strings::{first_of, lacks};
 use pyver_projects::table::{items, text};
 use std::alloc::{AllocError, Global};
 use toml::Value;

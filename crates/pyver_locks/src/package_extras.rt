@@ -13,10 +13,10 @@ use crate::locked_package::{LockParts, LockedExtra, LockedRequirement, package_t
 use crate::package_requirements::{
     is_plain_string, is_unconditional, new_requirement, past_extras,
 };
-use pep440_pick::{normalize_name, normalize_names};
+use pep440_pick::{normalize_name, normalize_names, split_name};
 use pyver_projects::inclusions::{Inclusion, InclusionIndex, included_groups, push_inclusions_by};
 use pyver_projects::own_extras::string_extras;
-use pyver_projects::requirement_strings::{cut_at, lacks, poetry_list, split_name};
+use pyver_projects::requirement_strings::{cut_at, lacks, poetry_list};
 use pyver_projects::table::{items, listed_strings, table, text};
 use std::alloc::{AllocError, Global};
 use std::collections::HashMap;

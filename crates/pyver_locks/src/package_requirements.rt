@@ -12,11 +12,9 @@ ghost use Rattle.pyver_projects.specs.ProjectStrings.{members_list, entries};
 use crate::known_environment::holds_everywhere;
 use crate::lock_kind::LockKind;
 use crate::locked_package::{LockParts, LockedRequirement, package_text};
-use pep440_pick::is_name;
+use pep440_pick::{is_name, split_at_byte, split_name};
 use pyver_projects::own_extras::{is_conditional, string_extras};
-use pyver_projects::requirement_strings::{
-    lacks, poetry_list, split_at_byte, split_name, text_or_empty,
-};
+use pyver_projects::requirement_strings::{lacks, poetry_list, text_or_empty};
 use pyver_projects::table::{inside, items, listed_strings, table, text};
 use std::alloc::{AllocError, Global};
 use toml::{Table, Value};

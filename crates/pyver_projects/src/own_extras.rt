@@ -14,10 +14,9 @@ ghost use Rattle.pyver_projects.specs.ProjectStrings.{section_of, project_string
 ghost use Rattle.pyver_projects.specs.RequirementStrings.{in_brackets, string_extras, is_conditional};
 
 use crate::project::{ProjectString, Section, is_project_name, project_name, written_strings};
-use crate::requirement_strings::{split_at_byte, split_name};
 use crate::table::{inside, items, top};
 use crate::tool_tables::names_in;
-use pep440_pick::{copy_extras, normalize_name, normalize_names};
+use pep440_pick::{copy_extras, normalize_name, normalize_names, split_at_byte, split_name};
 use std::alloc::{AllocError, Global};
 use toml::{Table, Value};
 

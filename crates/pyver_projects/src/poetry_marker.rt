@@ -1,6 +1,6 @@
 //! The conditions of an entry of Poetry or Pipenv as a marker of PEP 508.
-ghost use Rattle.std.specs.Prelude.{◌≡◌, ◌&&◌, codes, option_copied, ◌≤◌, length, ◌++◌, IfOk, string_bytes, ◌==◌, count_by, map, ℕ, List};
-ghost use Rattle.std.specs.List.{list_all, prefix_len, flat_map, slice_split};
+ghost use Rattle.std.specs.Prelude.{◌≡◌, ◌&&◌, codes, option_copied, ◌++◌, IfOk, string_bytes, ◌==◌, count_by, map, ℕ, List};
+ghost use Rattle.std.specs.List.{list_all, flat_map, slice_split};
 ghost use Rattle.pep440_version.specs.Changes.ChangeWords.{after};
 ghost use Rattle.pep440_version.specs.Grammar.{starts};
 ghost use Rattle.pep440_version.specs.Reading.{lead, past};
@@ -14,18 +14,14 @@ ghost use Rattle.pyver_requirements.specs.MarkerTokens.{is_operator_byte};
 ghost use Rattle.pyver_projects.specs.declared.project.EntryTool.TheVariants as of_entries;
 
 use crate::project::EntryTool;
-use crate::requirement_strings::{is_name_byte, plain_list, poetry_list, text_or_empty};
+use crate::requirement_strings::{plain_list, poetry_list, text_or_empty};
 use crate::table::{is_text_or_none, text};
+use pep440_pick::is_name_byte;
+use pyver_requirements::{count_operator_bytes, starts_with_operator};
 use std::alloc::{AllocError, Global};
 use toml::Value;
 
 // ---- comparisons
-
-pub(crate) fn is_operator_byte(byte: u8) -> bool
-    ensures { result ≡ is_operator_byte byte }
-{
-    matches!(byte, b'<' | b'>' | b'=' | b'!' | b'~')
-}
 
 // A byte of a version, of `.*` or of the name of a platform.
 fn is_value_byte(byte: u8) -> bool
@@ -60,15 +56,6 @@ fn past_blank(text: &str) -> &str
         Some(rest) => rest,
         None => text,
     }
-}
-
-fn count_operator_bytes(text: &[u8]) -> usize
-    ensures count { result ≡ prefix_len is_operator_byte text.now }
-    ensures inside { result ≤ length text.now }
-{
-    text.iter()
-        .take_while(|byte| is_operator_byte(**byte))
-        .count()
 }
 
 // The operator that the specifier begins with, and what follows it.
@@ -179,17 +166,11 @@ fn python_marker(alloc: Global, list: &str) -> Result<String, AllocError>
 
 // ---- platforms
 
-fn has_operator(platform: &str) -> bool
-    ensures { result ≡ starts is_operator_byte platform.now }
-{
-    matches!(platform.as_bytes(), [byte, ..] if is_operator_byte(*byte))
-}
-
 // A platform by itself is this one.
 fn platform_specifier(alloc: Global, platform: &str) -> Result<String, AllocError>
     ensures { IfOk result (λ specifier. string_bytes specifier ≡ platform_specifier platform.now) }
 {
-    if has_operator(platform) {
+    if starts_with_operator(platform.as_bytes()) {
         return String::from_str(alloc, platform);
     }
     let mut specifier = String::from_str(alloc, "==")?;

@@ -1,16 +1,13 @@
 //! Strings of requirements: their names and extras, and Poetry's lists of specifiers.
-ghost use Rattle.std.specs.Prelude.{◌≡◌, IfOk, option_map, string_bytes, ◌<◌, ◌++◌, codes, map, option_copied, nat_lt, ◌&&◌, [], ◌≤◌, length};
-ghost use Rattle.std.specs.List.{flat_map, list_any, prefix_len};
+ghost use Rattle.std.specs.Prelude.{◌≡◌, IfOk, option_map, string_bytes, ◌<◌, ◌++◌, codes, map, option_copied, nat_lt, ◌&&◌, []};
+ghost use Rattle.std.specs.List.{flat_map, list_any};
 ghost use Rattle.std.specs.Option.{option_or, unwrap_or};
-ghost use Rattle.pep440_pick.specs.Names.{is_name_byte};
-ghost use Rattle.pep440_pick.specs.RequirementReading.{split_at_byte};
 ghost use Rattle.pep440_version.specs.Changes.ChangeWords.{after};
 ghost use Rattle.pep440_version.specs.Grammar.{starts};
-ghost use Rattle.pep440_version.specs.Reading.{lead, past};
 ghost use Rattle.toml.specs.View.{view};
 ghost use Rattle.pyver_projects.specs.RequirementStrings.{extras_text, lacks, plain_list, is_counted, is_zero, cut_at, first_number, later_numbers, caret_numbers, tilde_numbers, from_comma, list_keeping, bare_list, tilde_list, poetry_list, requirement_text};
 
-use crate::table::{inside, text};
+use pep440_pick::split_at_byte;
 use std::alloc::{AllocError, Global};
 use toml::Value;
 
@@ -24,16 +21,6 @@ pub fn copy_text(alloc: Global, text: Option<&str>) -> Result<Option<String>, Al
         Some(text) => Ok(Some(String::from_str(alloc, text)?)),
         None => Ok(None),
     }
-}
-
-/// What stands before the first such character, which is to be ASCII, and what after it; none without one.
-///
-/// Allocates nothing.
-pub fn split_at_byte(text: &str, character: char) -> Option<(&str, &str)>
-    requires { character < 128 }
-    ensures { option_map (λ x. (x.0.now, x.1.now)) result ≡ split_at_byte character text.now }
-{
-    text.split_once(character)
 }
 
 /// The first string, or else the other.
@@ -318,28 +305,4 @@ pub fn text_or_empty(text: Option<&str>) -> &str
         Some(text) => text,
         None => "",
     }
-}
-
-fn count_name_bytes(text: &[u8]) -> usize
-    ensures count { result ≡ prefix_len is_name_byte text.now }
-    ensures inside { result ≤ length text.now }
-{
-    text.iter().take_while(|byte| is_name_byte(**byte)).count()
-}
-
-// A byte that may stand in a name.
-pub(crate) fn is_name_byte(byte: u8) -> bool
-    ensures { result ≡ is_name_byte byte }
-{
-    byte.is_ascii_alphanumeric() || matches!(byte, b'-' | b'_' | b'.')
-}
-
-/// The longest run of bytes of names at the start, and what follows it.
-///
-/// Allocates nothing.
-pub fn split_name(text: &str) -> (&str, &str)
-    ensures name { result.0.now ≡ lead is_name_byte text.now }
-    ensures rest { result.1.now ≡ past is_name_byte text.now }
-{
-    text.split_at(count_name_bytes(text.as_bytes()))
 }

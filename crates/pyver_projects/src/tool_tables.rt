@@ -3,28 +3,24 @@ ghost use Rattle.std.specs.Prelude.{◌≡◌, option_map, IfOk, string_bytes, �
 ghost use Rattle.std.specs.List.{flat_map, list_any};
 ghost use Rattle.pep440_pick.specs.Names.{normal};
 ghost use Rattle.pep440_rs.specs.Blanks.{opens};
-ghost use Rattle.pep440_version.specs.Grammar.{starts};
 ghost use Rattle.toml.specs.Data.{as_bool, Data, as_str};
 ghost use Rattle.toml.specs.View.{view, table_view};
 ghost use Rattle.pyver_projects.specs.ProjectStrings.{Entry, members_list, listed, key_path, Group, inside, entries, section_of, project_string_of};
 ghost use Rattle.pyver_projects.specs.ProjectTables.{table_list, entry_list, pipenv_list, entry_specifiers, is_package_name, unread, listed_source, entry_source, each_source, is_entry, sources_or_fault, entry_sources, tool_table, is_editable, group_path, tool_group, array_sources, tool_groups, poetry_sources, dev_sources, unread_table, unread_tables, unread_fields, added_sources, constraint_sources, other_sources, tool_sources, is_false, dev_packages, pipenv_faults, pipenv_tables, pipenv_sources, leading_name, entry_names, overridden_names};
 ghost use Rattle.pyver_projects.specs.RequirementStrings.{marked_text};
-ghost use Rattle.pyver_requirements.specs.MarkerTokens.{is_operator_byte};
 ghost use Rattle.pyver_projects.specs.declared.tool_tables.GroupTool.TheVariants as of_tool;
 
 use crate::environments::push_environments;
 use crate::inclusions::table_names;
 use crate::place::{after_blanks, key_path};
-use crate::poetry_marker::{entry_marker, has_conditions, is_operator_byte};
+use crate::poetry_marker::{entry_marker, has_conditions};
 use crate::project::{
     EntryTool, ProjectString, Section, push_array, push_invalid, push_string, push_table_fault,
 };
-use crate::requirement_strings::{
-    name_with_extras, plain_list, poetry_list, requirement_text, split_name,
-};
+use crate::requirement_strings::{name_with_extras, plain_list, poetry_list, requirement_text};
 use crate::table::{inside, items, listed_strings, table, text, top};
-use pep440_pick::{is_name, normalize_name};
-use pyver_requirements::Cause;
+use pep440_pick::{is_name, normalize_name, split_name};
+use pyver_requirements::{Cause, starts_with_operator};
 use std::alloc::{AllocError, Global};
 use toml::{Table, Value};
 
@@ -53,15 +49,6 @@ fn entry_list(tool: EntryTool, entry: &Value) -> Option<&str>
     match entry.as_table() {
         Some(_) => table_list(tool, entry),
         None => None,
-    }
-}
-
-fn starts_with_operator(list: &[u8]) -> bool
-    ensures { result ≡ starts is_operator_byte list.now }
-{
-    match list {
-        [byte, ..] => is_operator_byte(*byte),
-        [] => false,
     }
 }
 

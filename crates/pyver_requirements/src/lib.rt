@@ -32,6 +32,6 @@ pub use marker_fault::{MarkerError, MarkerFault};
 pub use marker_operator::MarkerOperator;
 pub use marker_reading::parse_marker;
 pub use marker_steps::{Step, parse_steps};
-pub use marker_token::Side;
+pub use marker_token::{Side, count_operator_bytes, starts_with_operator};
 pub use option_fault::{has_option, has_plain_options};
 pub use option_value::value_column;

@@ -171,7 +171,10 @@ fn is_operator_byte(byte: u8) -> bool
     matches!(byte, b'<' | b'=' | b'>' | b'!' | b'~')
 }
 
-fn count_operator_bytes(text: &[u8]) -> usize
+/// How many bytes of operators the text begins with: `<`, `=`, `>`, `!` and `~`.
+///
+/// Allocates nothing.
+pub fn count_operator_bytes(text: &[u8]) -> usize
     ensures count { result ≡ prefix_len is_operator_byte text.now }
     ensures inside { result ≤ length text.now }
 {
@@ -180,7 +183,10 @@ fn count_operator_bytes(text: &[u8]) -> usize
         .count()
 }
 
-fn starts_with_operator_byte(text: &[u8]) -> bool
+/// Whether the text begins with a byte of operators.
+///
+/// Allocates nothing.
+pub fn starts_with_operator(text: &[u8]) -> bool
     ensures { result ≡ starts is_operator_byte text.now }
 {
     match text {
@@ -229,7 +235,7 @@ fn scan_word_operator(text: &[u8]) -> Option<MarkerOperator>
 fn scan_operator(text: &[u8]) -> Option<MarkerOperator>
     ensures { result ≡ comparing text.now }
 {
-    if starts_with_operator_byte(text) {
+    if starts_with_operator(text) {
         find_symbol(&text[..count_operator_bytes(text)])
     } else {
         scan_word_operator(text)
@@ -240,7 +246,7 @@ fn scan_operator(text: &[u8]) -> Option<MarkerOperator>
 fn behind_operator(text: &[u8]) -> &[u8]
     ensures { result.now ≡ behind_comparing text.now }
 {
-    if starts_with_operator_byte(text) {
+    if starts_with_operator(text) {
         skip_blanks(&text[count_operator_bytes(text)..])
     } else if has_word(text, "not") {
         skip_blanks(behind_word(skip_blanks(behind_word(text))))
