@@ -1,5 +1,5 @@
 -- Bytes that are a string or a compiled form: what is read of each, and what is found in compiled bytes as they lie.
-use Rattle.std.proofs.Common.{◌≡◌, ◌∙◌, ℕ, List, Bool, ap, arith, codes, inl, inr, refl, subst, sym, ◌<◌, [], ◌∷◌, ◌++◌, true, map, Option, Some, None, ◌≤◌, ◌+◌, ◌*◌, ◌^◌, ◌%◌, ◌/◌, zero, suc, false, length}
+use Rattle.std.proofs.Common.{◌≡◌, ◌∙◌, ℕ, List, Bool, ap, arith, codes, inl, inr, refl, subst, sym, ◌<◌, [], ◌∷◌, ◌++◌, true, map, Option, Some, None, ◌≤◌, ◌+◌, ◌*◌, ◌^◌, ◌%◌, ◌/◌, zero, suc, false, length, Bor}
 use Rattle.std.specs.Prelude.{Err, IfOk, IsOk, Ok, ◌⊎◌, Result, slice_get, unwrap_or, MatchResult, codes, drop, nat_lt, if◌then◌else◌}
 use Rattle.std.specs.declared.cmp.Ordering.{Ordering}
 use Rattle.pep440_compiled.specs.Lists.{DenotesList, DenotesWithSet, HasListFormat, HasSetFormat, IsParsedMember}
@@ -11,7 +11,7 @@ use Rattle.pep440_version.specs.Key.{record_cmp, dev_of, dev_rank, post_of, post
 use Rattle.pep440_version.specs.Record.{Record, LocalSegmentValue, Number, Text}
 use Rattle.pep440_calls.proofs.Once.{never_both, one_bytes_list, one_version, no_format}
 use Rattle.pep440_calls.specs.Statuses.{Faults, HoldsOr, HoldsOrFaults, WritesBytesOr, WritesResult, fault_of_compile, fault_of_string}
-use Rattle.pep440_calls.specs.CallResults.{Contains, IsCompiled, IsOrder, IsPrerelease, RejectsSecond, order_number, IsKey}
+use Rattle.pep440_calls.specs.CallResults.{Contains, IsCompiled, IsOrder, IsPrerelease, IsRejectedString, IsTakenForm, RejectsSecond, order_number, IsKey}
 use Rattle.pep440_calls.specs.CallerBytes.{IsNoCompiledList, IsNoCompiledVersion, BytesDenote, BytesDenoteList, ListFaults, StringDenotesList, StringDenotes, RejectsBytes, RejectsListBytes, RejectsListString, RejectsString}
 use Rattle.pep440_calls.specs.declared.fault.Fault.{Fault}
 use Rattle.std.proofs.lemmas.List.Elements.{All-weaker}
@@ -153,12 +153,28 @@ no_set_list bytes format none = no_compiled_list bytes (inr format) (λ l d. non
 
 -- ---- what calls find
 
--- the order of versions that were read
-pub order_read : (left right : List ℕ) (r q : Record) (o : Ordering) → BytesDenote left r → BytesDenote right q → o ≡ record_cmp r q → IsOrder left right (order_number o)
-order_read left right r q o means also is = (
-  inr ((r, means), (q, also)),
-  λ x y first second. ap order_number (is ∙ (λ i. record_cmp (one_version left r x means first i) (one_version right q y also second i))),
+-- the compiled form of a string is that of its version
+pub form_made : (text form : List ℕ) → IsCompiled text form → IsTakenForm text form
+form_made text form (r, means, compiled) = (inr (r, means), λ q also. subst (DenotesVersion form) (one_version text r q means also) compiled)
+
+-- a version is taken as it lies
+pub form_given : (text : List ℕ) → HasVersionFormat text → IsTakenForm text text
+form_given text format = (
+  inl format,
+  λ r means. elim means [
+    | inl string ↦ absurd (string.0 format)
+    | inr compiled ↦ compiled
+  ],
 )
+
+pub string_form : (text : List ℕ) → (¬ HasVersionFormat text) → (result : Result (Bor (List ℕ)) Fault) → HoldsOrFaults (RejectsBytes text) ⊥ ⊥ (λ form. IsCompiled text form.now) result
+    → HoldsOrFaults (IsRejectedString text) ⊥ ⊥ (λ form. IsTakenForm text form.now) result
+string_form text string (Ok form) h = form_made text form.now h
+string_form text string (Err f) h = Faults-weaker (RejectsBytes text) ⊥ ⊥ (IsRejectedString text) ⊥ (λ why. (string, why)) (λ none. none) f h
+
+-- the order of versions by their compiled forms
+pub order_read : (left right form other : List ℕ) (o : Ordering) → IsTakenForm left form → IsTakenForm right other → ((r q : Record) → DenotesVersion form r → DenotesVersion other q → o ≡ record_cmp r q) → IsOrder left right (order_number o)
+order_read left right form other o first second found = ((first.0, second.0), λ r q means also. ap order_number (found r q (first.1 r means) (second.1 q also)))
 
 -- matching of a compiled list and the compiled form of a string
 module _ (list text form : List ℕ) (format : HasListFormat list) (r : Record) (means : BytesDenote text r) (compiled : DenotesVersion form r) where

@@ -100,24 +100,28 @@ order_number Less = negsuc 0
 order_number Equal = pos 0
 order_number Greater = pos 1
 
--- both begin as compiled versions, which are compared as they lie; or both denote a version
-abbrev pub AreComparable : List ℕ → List ℕ → Type 0
-AreComparable left right = (HasVersionFormat left × HasVersionFormat right) ⊎ (((r : Record) × BytesDenote left r) × ((q : Record) × BytesDenote right q))
+-- the bytes begin as a compiled version, which is taken as it lies, or denote a version
+abbrev pub IsTakenAsVersion : List ℕ → Type 0
+IsTakenAsVersion text = HasVersionFormat text ⊎ ((r : Record) × BytesDenote text r)
+
+-- the bytes do not begin as a compiled version, and are no version
+abbrev pub IsRejectedString : List ℕ → Type 0
+IsRejectedString text = (¬ HasVersionFormat text) × RejectsBytes text
 
 -- the number is the order of the two versions, if the bytes denote versions: -1, 0 or 1
 abbrev pub IsOrder : List ℕ → List ℕ → ℤ → Type 0
-IsOrder left right number = AreComparable left right × ((r q : Record) → BytesDenote left r → BytesDenote right q → number ≡ order_number (record_cmp r q))
+IsOrder left right number = (IsTakenAsVersion left × IsTakenAsVersion right) × ((r q : Record) → BytesDenote left r → BytesDenote right q → number ≡ order_number (record_cmp r q))
 
 module _ (left right : List ℕ) where
   -- why there is no order: the left version is invalid, or the right one
   abbrev pub OrderFaults : Fault → Type 0
-  OrderFaults fault.InvalidVersion = RejectsBytes left
+  OrderFaults fault.InvalidVersion = IsRejectedString left
   OrderFaults fault.InvalidList = ⊥
   OrderFaults fault.OutOfMemory = Unit {0}
   OrderFaults fault.NumberAtMax = ⊥
   OrderFaults fault.NoSet = ⊥
   OrderFaults fault.NoList = ⊥
-  OrderFaults fault.InvalidRight = ((HasVersionFormat left × HasVersionFormat right) ⊎ ((r : Record) × BytesDenote left r)) × RejectsBytes right
+  OrderFaults fault.InvalidRight = IsTakenAsVersion left × IsRejectedString right
 
   -- the order, or why there is none
   abbrev pub ReturnsOrder : Result Ordering Fault → Type 0
@@ -127,10 +131,6 @@ module _ (left right : List ℕ) where
   -- the order is written with status 0; otherwise the caller's number is unchanged, and the status is that of the failure
   abbrev pub OrderResult : ℤ → ℤ → ℕ → Type 0
   OrderResult old new status = ((order : Ordering) × (status ≡ 0) × (new ≡ order_number order) × IsOrder left right new) ⊎ ((new ≡ old) × (f : Fault) × OrderFaults f × (status ≡ fault_status f))
-
--- the bytes begin as a compiled version, which is taken as it lies, or denote a version
-abbrev pub IsTakenAsVersion : List ℕ → Type 0
-IsTakenAsVersion text = HasVersionFormat text ⊎ ((r : Record) × BytesDenote text r)
 
 -- the normalized form of a version whose compiled form is short
 abbrev pub IsShortNormalForm : List ℕ → Type 0
@@ -213,6 +213,10 @@ PartsResult text old parts old_release release status =
 -- the compiled form of the version
 abbrev pub IsCompiled : List ℕ → List ℕ → Type 0
 IsCompiled text bytes = (r : Record) × BytesDenote text r × DenotesVersion bytes r
+
+-- the bytes are taken as a version, and if they denote one, this is its compiled form
+abbrev pub IsTakenForm : List ℕ → List ℕ → Type 0
+IsTakenForm text bytes = IsTakenAsVersion text × ((r : Record) → BytesDenote text r → DenotesVersion bytes r)
 
 -- the compiled form of the list
 abbrev pub IsCompiledList : List ℕ → List ℕ → Type 0
