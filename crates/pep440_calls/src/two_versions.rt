@@ -1,5 +1,5 @@
 //! How two versions compare.
-ghost use Rattle.std.specs.Prelude.{IfErr, ◌≡◌, ◌≢◌};
+ghost use Rattle.std.specs.Prelude.{IfErr, List, ℕ, ◌≡◌, ◌≢◌};
 ghost use Rattle.pep440_calls.specs.Statuses.{HoldsOrFaults};
 ghost use Rattle.pep440_calls.specs.CallResults.{IsRejectedString, IsTakenForm, NeedsNoMemory, OrderResult, ReturnsOrder, order_number};
 ghost use Rattle.pep440_calls.specs.declared.fault.Fault.TheVariants.{OutOfMemory};
@@ -55,20 +55,32 @@ fn make_form<'a>(
     compile_string(alloc, buffer, bytes)
 }
 
-// How versions compare by their compiled forms, which at least one, a string, has yet to get.
+// How a version that has this compiled form compares with the right one.
+#[inline(always)]
+fn compare_form(alloc: Global, form: &[u8], right: &[u8]) -> Result<Ordering, Fault>
+    ensures found { (left : List ℕ) → IsTakenForm left form.now → ReturnsOrder left right.now result }
+    ensures memory { NeedsNoMemory right.now → IfErr result (λ f. f ≢ OutOfMemory) }
+{
+    let mut buffer = FormBuffer::new(alloc);
+    match make_form(alloc, &mut buffer, right) {
+        Ok(other) => Ok(pep440_compiled::compare(form, other).unwrap_or(Ordering::Equal)),
+        Err(Fault::OutOfMemory) => Err(Fault::OutOfMemory),
+        Err(_rejected) => Err(Fault::InvalidRight),
+    }
+}
+
+// How versions compare of which one at least is a string. A compiled left one pays nothing for a buffer.
 #[inline(never)]
 fn compare_forms(alloc: Global, left: &[u8], right: &[u8]) -> Result<Ordering, Fault>
     ensures found { ReturnsOrder left.now right.now result }
     ensures memory { NeedsNoMemory left.now → NeedsNoMemory right.now → IfErr result (λ f. f ≢ OutOfMemory) }
 {
-    let mut left_buffer = FormBuffer::new(alloc);
-    let mut right_buffer = FormBuffer::new(alloc);
-    let form = make_form(alloc, &mut left_buffer, left)?;
-    match make_form(alloc, &mut right_buffer, right) {
-        Ok(other) => Ok(pep440_compiled::compare(form, other).unwrap_or(Ordering::Equal)),
-        Err(Fault::OutOfMemory) => Err(Fault::OutOfMemory),
-        Err(_rejected) => Err(Fault::InvalidRight),
+    if has_version_format(left) {
+        return compare_form(alloc, left, right);
     }
+    let mut buffer = FormBuffer::new(alloc);
+    let form = make_form(alloc, &mut buffer, left)?;
+    compare_form(alloc, form, right)
 }
 
 // How the left version compares with the right one.
