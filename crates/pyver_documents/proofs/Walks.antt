@@ -1,5 +1,5 @@
 -- Lists beside lists, lists that are made of each element, strings that are read one after another, and names that are known, repeated or those of packages.
-use Rattle.std.proofs.Common.{List, [], refl, ◌++◌, ◌+◌, ◌∷◌, ◌≡◌, Bool, false, true, ◌||◌, ap, map, ◌&&◌, arith, get_or, length, subst, suc, zero, ℕ, ◌<◌, sym, ◌-◌, take, take_all, drop, ◌∙◌, ◌≤◌, if◌then◌else◌, None, Option, Some, is_none, IfSome, inr, inl, Err, IfOk, Ok, Result, ◌⊎◌, cond, not, ◌==◌, Bor, Vec, bytes_eq, nat_lt}
+use Rattle.std.proofs.Common.{List, [], refl, ◌++◌, ◌+◌, ◌∷◌, ◌≡◌, Bool, false, true, ◌||◌, ap, map, ◌&&◌, arith, get_or, length, subst, suc, zero, ℕ, ◌<◌, sym, take, take_all, drop, ◌∙◌, ◌≤◌, if◌then◌else◌, None, Option, Some, is_none, IfSome, inr, inl, Err, IfOk, Ok, Result, ◌⊎◌, cond, not, ◌==◌, Bor, Vec, bytes_eq, nat_lt}
 use Rattle.std.proofs.lemmas.Bool.{true≢false, and_parts, false_from_ne_true}
 use Rattle.std.proofs.lemmas.List.{map-append, take_more, length-map}
 use Rattle.std.proofs.lemmas.List.Elements.{All-cons, All-head, All-nil, All-tail, All-append}

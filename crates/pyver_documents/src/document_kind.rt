@@ -122,7 +122,7 @@ fn ends_path(path: &[u8], name: &[u8], after_slash: &[u8]) -> bool
 }
 
 // What follows the last `/`, or all.
-#[tactic(auto, using(crate::proofs::Walks::folder_fits, crate::proofs::Walks::section_is))]
+#[tactic(auto, using(crate::proofs::Walks::folder_fits))]
 fn last_section(path: &[u8]) -> &[u8]
     ensures { result.now ≡ last_section path.now }
 {
