@@ -56,7 +56,7 @@ use Rattle.pep440_compiled.proofs.Fronts.{itself, keyed}
 use Rattle.pep440_keys.proofs.Order.{followed_in_order, same_keys}
 use Rattle.pep440_keys.specs.SortKeys.{IsKeyed, key_bytes}
 use Rattle.pep440_version.proofs.Ordering.Comparisons.{then_assoc}
-use Rattle.pep440_version.proofs.Words.Blocks.{is_below, nat_cmp_block}
+use Rattle.pep440_version.proofs.Words.Blocks.{nat_cmp_block}
 use Rattle.pep440_version.specs.Key.KeyLaws.{record_total}
 use Rattle.pep440_calls.specs.declared.batch.Entry.{Entry}
 use Rattle.pep440_pick.proofs.Choosing as greatest

@@ -8,7 +8,7 @@
 //! versions or sets is invalid, 7 a version is not packed, 8 a version cannot be changed so, 9 bytes are to be nothing known, 10 none is
 //! found, 12 a list has no set, 13 a set by itself has no list.
 //!
-//! `write_order` of two compiled versions, `write_match` and `write_request_flag` of a compiled list read them as they lie. They do not test the whole of
+//! `write_order` of compiled versions, `write_match` and `write_request_flag` of a compiled list read them as they lie. They do not test the whole of
 //! them: of bytes that begin as a compiled form and are none they return an error or any result, and never read outside them. So do
 //! `write_allow_flag` and the calls on sets, of a compiled list with its set and of a set by itself.
 //!

@@ -1,5 +1,5 @@
 -- Of the segments of a range, one half does not decide whether a value is contained.
-use Rattle.std.proofs.Common.{◌≡◌, ◌-◌, ◌/◌, ℕ, Bool, true, false, not, ◌&&◌, ◌||◌, List, [], ◌∷◌, ◌++◌, arith, length, take, drop, map, refl, sym, ap, ◌∙◌, subst}
+use Rattle.std.proofs.Common.{◌≡◌, ◌-◌, ◌/◌, ℕ, Bool, true, false, not, ◌||◌, List, [], ◌∷◌, ◌++◌, arith, length, take, drop, map, refl, sym, ap, ◌∙◌, subst}
 use mathlib.Core.Bool.{true≢false}
 use Rattle.std.proofs.lemmas.Bool.{and_left, and_right, not-false, or_right}
 use Rattle.std.proofs.lemmas.List.{length-drop, map-append, take-append-drop}

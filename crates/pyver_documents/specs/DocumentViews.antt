@@ -23,7 +23,6 @@ use Rattle.pyver_locks.specs.LockContents.{LockParts, parts_of}
 use Rattle.pyver_locks.specs.KnownEnvironments.{read_condition_of}
 use Rattle.pyver_projects.specs.ProjectStrings.{Inclusion, section_of, indexed_names, inclusions_of, IsNameIndex, IsInclusionIndex}
 use Rattle.pyver_documents.specs.declared.document_reading.DocumentReading.TheVariants as reading
-use Rattle.pyver_projects.specs.declared.project.Section.TheVariants as section
 
 abbrev pub string_reading_of : StringReadingValue → StringReading
 string_reading_of x = record { section = section_of x.section; meaning = line_meaning_of x.meaning; python = x.python }

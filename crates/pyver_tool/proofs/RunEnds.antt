@@ -28,9 +28,9 @@ use Rattle.pyver_tool.specs.SplitWords.{value_behind, Awaits, End, Given, Missin
 use Rattle.std.proofs.Math.Seq.{take-append_seam}
 use Rattle.std.proofs.lemmas.Grind.{flat_map-append}
 use Rattle.std.proofs.lemmas.List.{drop_all, drop_more, map-append}
-use Rattle.std.specs.List.{flat_map, list_any, AllZip}
+use Rattle.std.specs.List.{flat_map, AllZip}
 use Rattle.pyver_commands.proofs.SourceReads.{stops_before}
-use Rattle.pyver_tool.specs.RequirementFiles.{EndsSearch, FailsInFiles, FailsInNames, FailsInSearch, FailsInSearches, FailsOpening, FilesRead, GainsFile, GainsUnopened, HasNames, HasPath, HasReads, ReadsFilesInTurn, ReadsNames, ReadsNext, ReadsStep, SeeksFirst, SeeksInTurn, SeeksName, StepsOrFailsOpening, below, file_with, has_path, is_lock, lock_searches, names_in, names_of_files, none_read, read_of, searches_for, with_unopened, word_file, UnopenedFile}
+use Rattle.pyver_tool.specs.RequirementFiles.{EndsSearch, FailsInFiles, FailsInNames, FailsInSearch, FailsInSearches, FailsOpening, FilesRead, GainsFile, GainsUnopened, HasNames, HasPath, HasReads, ReadsFilesInTurn, ReadsNames, ReadsNext, ReadsStep, SeeksFirst, SeeksInTurn, SeeksName, StepsOrFailsOpening, below, file_with, has_path, names_in, names_of_files, none_read, read_of, with_unopened, word_file, UnopenedFile}
 use Rattle.pyver_commands.specs.Sources.SourceTexts.{FailsInText}
 use Rattle.pyver_tool.specs.declared.options.FileKind.{FileKind}
 use Rattle.pyver_commands.specs.declared.sources.open_failure.OpenFailure.{OpenFailure}
