@@ -7,7 +7,6 @@ pub mod Endings
 pub mod LocalAgrees
 pub mod AfterRelease
 pub mod PartsAgree
-pub mod PrintedParts
 pub mod Agreement
 pub mod WordAsPrefix
 pub mod PublicAnswers

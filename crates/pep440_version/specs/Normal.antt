@@ -1,12 +1,10 @@
 -- Few release numbers and suffixes in their normal spelling (PEP 440, "Normalization").
-use Rattle.std.specs.Prelude.{◌≡◌, ℕ, ◌≤◌, ◌<◌, ◌⊎◌, ◌==◌, ◌||◌, ◌++◌, Bool, List, [], ◌∷◌, codes, length, slice_index, take, true, false, Option, Some, None, IfSome, if◌then◌else◌}
+use Rattle.std.specs.Prelude.{◌≡◌, ℕ, ◌≤◌, ◌<◌, ◌⊎◌, ◌==◌, ◌++◌, List, [], codes, length, slice_index, take, false, Option, Some, None, if◌then◌else◌}
 use Rattle.std.specs.Char.{is_ascii_digit}
-use Rattle.std.specs.List.{All}
 use Rattle.pep440_version.specs.declared.prerelease.PrereleaseKind.{PrereleaseKind}
 use Rattle.pep440_version.specs.declared.prerelease.PrereleaseKind.TheVariants.{Alpha, Beta, Rc}
 use Rattle.pep440_version.specs.Grammar.{IsNumber, IsRelease, starts}
 use Rattle.pep440_version.specs.Reading.{skip_v}
-use Rattle.pep440_version.specs.Record.{Record}
 
 -- the first numbers of four, with zeros after them
 pub record IsPadded (count : ℕ) (numbers : List ℕ) : Type 0 where
@@ -43,28 +41,3 @@ IsClassOfKind class kind = ((class ≡ 2) × (kind ≡ Alpha)) ⊎ ((class ≡ 3
 abbrev pub HasSuffix : ℕ → List ℕ → Option ℕ → List ℕ → Type 0
 HasSuffix class text None rest = text ≡ rest
 HasSuffix class text (Some n) rest = (digits : List ℕ) × IsNumber digits n × (starts is_ascii_digit rest ≡ false) × (text ≡ spelling class ++ (digits ++ rest))
-
--- the numbers that the short passes parse, dates among them
-abbrev pub IsSmall : ℕ → Type 0
-IsSmall n = n ≤ 2147483647
-
--- at most four release numbers, each number small but for those of the local part, and no sentinel
-pub record HasSmallParts (r : Record) : Type 0 where
-  pub epoch : IsSmall r.epoch
-  pub some : 0 < length r.release
-  pub few : length r.release ≤ 4
-  pub release : All IsSmall r.release
-  pub pre : IfSome r.pre (λ p. IsSmall p.number)
-  pub post : IfSome r.post IsSmall
-  pub dev : IfSome r.dev IsSmall
-  pub no_min : r.min ≡ None
-  pub no_max : r.max ≡ None
-
--- nothing, or a dot or a plus and more
-abbrev pub is_at_mark : List ℕ → Bool
-is_at_mark [] = true
-is_at_mark (b ∷ rest) = b == 46 || b == 43
-
--- no release goes on here: neither with a digit nor with a dot and a digit
-abbrev pub EndsRelease : List ℕ → Type 0
-EndsRelease text = (starts is_ascii_digit text ≡ false) × ((rest : List ℕ) → text ≡ 46 ∷ rest → starts is_ascii_digit rest ≡ false)

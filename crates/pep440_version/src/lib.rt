@@ -48,7 +48,6 @@ pub use change::{Change, ChangeError};
 pub use change_word::{ChangeWordError, parse_change};
 pub use error::{ErrorKind, PatternErrorKind, VersionParseError, VersionPatternParseError};
 pub use order::{cmp_releases, cmp_without_local};
-pub use parse::{NormalParts, parse_leading_parts};
 pub use pattern::VersionPattern;
 pub use prerelease::{Prerelease, PrereleaseKind};
 pub use print::write_local_segments;

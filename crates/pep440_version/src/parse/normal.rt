@@ -1,13 +1,10 @@
 //! The fast path: what indexes mostly have, the letter `v`, up to four small numbers and one suffix in its normal
 //! spelling, read byte by byte.
-ghost use Rattle.std.specs.Prelude.{◌≡◌, ◌<◌, ◌≤◌, ◌++◌, ◌∷◌, ℕ, List, IfSome, MatchOption, false, length, take};
+ghost use Rattle.std.specs.Prelude.{◌≡◌, ◌≤◌, ◌++◌, ◌∷◌, ℕ, List, IfSome, false, take};
 ghost use Rattle.std.specs.Char.{is_ascii_digit};
-ghost use Rattle.std.specs.Fmt.{decimal};
-ghost use Rattle.std.specs.List.{All};
 ghost use Rattle.pep440_version.specs.Grammar.{Derives, IsNumber, IsRelease, starts};
-ghost use Rattle.pep440_version.specs.Normal.{EndsRelease, HasRelease, IsClass, IsPadded, IsSmall, IsSuffix, spelling};
+ghost use Rattle.pep440_version.specs.Normal.{HasRelease, IsClass, IsPadded, IsSuffix, spelling};
 ghost use Rattle.pep440_version.specs.Patterns.{DerivesPattern, DerivesStar};
-ghost use Rattle.pep440_version.specs.Print.{dotted};
 
 use super::skip_v;
 use crate::packed::Packed;
@@ -22,8 +19,6 @@ const MAX_SMALL_NUMBER: u64 = 2147483647;
 pub(crate) fn parse_small_number(text: &[u8]) -> Option<(u64, &[u8])>
     ensures number { IfSome result (λ x. (digits : List ℕ) × IsNumber digits x.0 × (x.0 ≤ 2147483647) × (text.now ≡ digits ++ x.1.now)) }
     ensures ended { IfSome result (λ x. starts is_ascii_digit x.1.now ≡ false) }
-    ensures printed { (n : ℕ) (rest : List ℕ) → IsSmall n → starts is_ascii_digit rest ≡ false
-        → text.now ≡ decimal n ++ rest → MatchOption result ⊥ (λ x. (x.0 ≡ n) × (x.1.now ≡ rest)) }
 {
     let (first, rest) = text.split_first()?;
     if !first.is_ascii_digit() {
@@ -45,10 +40,8 @@ pub(crate) fn parse_small_number(text: &[u8]) -> Option<(u64, &[u8])>
 // The small number after a dot, and the rest.
 #[inline(always)]
 fn parse_next_number(text: &[u8]) -> Option<(u64, &[u8])>
-    ensures number { IfSome result (λ x. (digits : List ℕ) × IsNumber digits x.0 × (x.0 ≤ 2147483647)
+    ensures { IfSome result (λ x. (digits : List ℕ) × IsNumber digits x.0 × (x.0 ≤ 2147483647)
         × (text.now ≡ 46 ∷ (digits ++ x.1.now))) }
-    ensures printed { (n : ℕ) (rest : List ℕ) → IsSmall n → starts is_ascii_digit rest ≡ false
-        → text.now ≡ 46 ∷ (decimal n ++ rest) → MatchOption result ⊥ (λ x. (x.0 ≡ n) × (x.1.now ≡ rest)) }
 {
     match text {
         [b'.', rest @ ..] => parse_small_number(rest),
@@ -59,11 +52,8 @@ fn parse_next_number(text: &[u8]) -> Option<(u64, &[u8])>
 // Up to four small numbers with dots between them, how many there are, and the rest.
 #[inline(always)]
 pub(crate) fn parse_small_release(text: &[u8]) -> Option<([u64; 4], usize, &[u8])>
-    ensures release { IfSome result (λ x. IsPadded x.1 x.0
+    ensures { IfSome result (λ x. IsPadded x.1 x.0
         × ((release : List ℕ) × IsRelease release (take x.1 x.0) × (text.now ≡ release ++ x.2.now))) }
-    ensures printed { (release rest : List ℕ) → 0 < length release → length release ≤ 4 → All IsSmall release
-        → EndsRelease rest → text.now ≡ dotted decimal release ++ rest
-        → MatchOption result ⊥ (λ x. (take x.1 x.0 ≡ release) × (x.2.now ≡ rest)) }
 {
     let (first, mut rest) = parse_small_number(text)?;
     let mut numbers = [first, 0, 0, 0];
@@ -80,9 +70,7 @@ pub(crate) fn parse_small_release(text: &[u8]) -> Option<([u64; 4], usize, &[u8]
 // The class of the suffix whose normal spelling leads, and the rest.
 #[inline(always)]
 pub(crate) fn parse_class(text: &[u8]) -> Option<(u64, &[u8])>
-    ensures class { IfSome result (λ x. IsClass x.0 × (text.now ≡ spelling x.0 ++ x.1.now)) }
-    ensures spelled { (class : ℕ) (rest : List ℕ) → IsClass class → text.now ≡ spelling class ++ rest
-        → MatchOption result ⊥ (λ x. (x.0 ≡ class) × (x.1.now ≡ rest)) }
+    ensures { IfSome result (λ x. IsClass x.0 × (text.now ≡ spelling x.0 ++ x.1.now)) }
 {
     match text {
         [b'a', rest @ ..] => Some((ALPHA, rest)),
