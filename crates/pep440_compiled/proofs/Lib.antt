@@ -4,6 +4,7 @@ pub mod Comparing
 pub mod Fronts
 pub mod Listed
 pub mod Loops
+pub mod PrintedParts
 pub mod Rewritten
 pub mod SetKeys
 pub mod SetMerging

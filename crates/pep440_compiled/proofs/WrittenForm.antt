@@ -31,20 +31,25 @@ use Rattle.pep440_version.specs.Print.{dotted, local_text, print_segment}
 use Rattle.pep440_version.specs.declared.prerelease.Prerelease.{Prerelease}
 use Rattle.pep440_version.specs.declared.prerelease.PrereleaseKind.{PrereleaseKind}
 
--- a segment that is a string
-pub string_segment : (text : List ℕ) → list_all is_lower text ≡ true → list_all is_ascii_digit text ≡ false → IsSegment text (Text text)
-string_segment [] lower none = absurd (true≢false none)
-string_segment (b ∷ text) lower none = segment_reads (Text (b ∷ text)) tt (omega arith, lower, rw none refl)
-
-digit_alphanumeric : (b : ℕ) → is_ascii_digit b ≡ true → is_ascii_alphanumeric b ≡ true
-digit_alphanumeric b is = rw is refl
-
 -- a segment that is a number
-pub number_segment : (text rest : List ℕ) (n : ℕ) → ((digits : List ℕ) × IsNumber digits n × (text ≡ digits ++ rest)) → length rest ≡ 0 → IsSegment text (Number n)
-number_segment text rest n (digits, is, joined) none =
-    let same : text ≡ digits = joined ∙ ap (λ r. digits ++ r) (nil_from_length rest none) ∙ append-nil digits in
-    subst (λ t. IsSegment t (Number n)) (sym same)
-    (is.0, all_weaker is_ascii_digit is_ascii_alphanumeric digit_alphanumeric digits is.1, rw (is.1, is.2, lt-ltb n (2 ^ 64) is.3) refl)
+pub number_segment : (digits : List ℕ) (n : ℕ) → IsNumber digits n → IsSegment digits (Number n)
+number_segment digits n is = (is.0, all_weaker is_ascii_digit is_ascii_alphanumeric digit_alphanumeric digits is.1, rw (is.1, is.2, lt-ltb n (2 ^ 64) is.3) refl)
+  where
+    digit_alphanumeric : (b : ℕ) → is_ascii_digit b ≡ true → is_ascii_alphanumeric b ≡ true
+    digit_alphanumeric b is = rw is refl
+
+-- no number is the whole leading segment
+abbrev pub NoNumeral : List ℕ → Type 0
+NoNumeral text = (digits rest : List ℕ) (n : ℕ) → IsNumber digits n → starts is_lower rest ≡ false → text ≡ digits ++ rest → ⊥
+
+-- so a leading segment is a string
+pub string_segment : (text segment rest : List ℕ) → NoNumeral text → text ≡ segment ++ rest → 0 < length segment → list_all is_lower segment ≡ true → starts is_lower rest ≡ false → IsSegment segment (Text segment)
+string_segment text segment rest none split some lower ended = segment_reads (Text segment) tt (some, lower, elim (cases_Bool (is_numeral segment)) [
+  | inl e ↦
+      let both = both_true (list_all is_ascii_digit segment) (nat_lt (digits_value 10 segment) (2 ^ 64)) e in
+      absurd (none segment rest (digits_value 10 segment) (some, both.0, refl, ltb-lt _ _ both.1) ended split)
+  | inr e ↦ e
+])
 
 -- a string is rejected, if its error is not 'out of memory'
 pub rejected : (bytes text : List ℕ) (o : Option Rejection) → text ≡ bytes → is_none o ≡ false → IfSome o (Rejects text) → (f : Rejection) × Rejects bytes f
@@ -53,9 +58,6 @@ rejected bytes text (Some f) same some why = (f, subst (λ t. Rejects t f) same 
 
 pub string_written : (old text : List ℕ) → ((old ++ 1 ∷ []) ++ text) ++ 0 ∷ [] ≡ old ++ segment_bytes (Text text)
 string_written old text = simp append_assoc
-
-pub above_48 : (digit : ℕ) → is_ascii_digit digit ≡ true → (digit ≡ 48 → ⊥) → (0 < digit - 48) × (digit - 48 < 256)
-above_48 digit is other = grind (arith, nat_tests)
 
 -- the segments before the rest are written
 pub record AreWritten (text rest old form : List ℕ) : Type 0 where
@@ -84,33 +86,32 @@ last_segment text rest old form new first s before joined is next =
 
 -- ---- a segment, by its string
 
--- a string that is not of digits alone, which has capacity beside the two bytes around it
-pub string_only : (old : ℕ) (text : List ℕ) (s : LocalSegmentValue) → IsShortSegment s → text ≡ print_segment s → list_all is_ascii_digit text ≡ false → old + length (segment_bytes s) ≤ 64
-    → (s ≡ Text text) × (old + (1 + (length text + 1)) ≤ 64)
-string_only old text (Text t) one is other fits = (ap Text (sym is), omega (arith, fits, ap length is, length-append t (0 ∷ [])))
-string_only old text (Number n) one is other fits =
-    let all = ap (list_all is_ascii_digit) is ∙ digits_decimal digits_model n (omega (arith, one)) in
-    absurd (true≢false (sym all ∙ other))
+digits_lower : (digits : List ℕ) → list_all is_ascii_digit digits ≡ true → list_all is_lower digits ≡ true
+digits_lower digits all = all_weaker is_ascii_digit is_lower (λ b is. rw is refl) digits all
 
--- a digit
-pub digit_only : (text : List ℕ) (s : LocalSegmentValue) → IsShortSegment s → text ≡ print_segment s → list_all is_ascii_digit text ≡ true
-    → (length text ≡ 1) × (s ≡ Number (get_or text 0 0 - 48))
-digit_only text (Text t) one is all = absurd (true≢false (sym all ∙ ap (list_all is_ascii_digit) is ∙ one))
-digit_only text (Number n) one is all =
-    let digit = is ∙ decimal_digit n one in
-    let value : get_or text 0 0 ≡ 48 + n = ap (λ l. get_or l 0 0) digit in
-    (ap length digit, ap Number (omega (arith, value)))
+-- where a number is the leading segment, the printed segment is that number
+pub numeral_is : (text rest : List ℕ) (n : ℕ) → ((digits : List ℕ) × IsNumber digits n × (text ≡ digits ++ rest)) → starts is_lower rest ≡ false
+    → (s : LocalSegmentValue) (later : List ℕ) → SegmentFits s → SegmentRoundTrips s → starts is_lower later ≡ false → text ≡ print_segment s ++ later → (s ≡ Number n) × (rest ≡ later)
+numeral_is text rest n (digits, number, split) ended (Number m) later fit again stop e =
+    let other = decimal_number m fit in
+    let same = same_front is_lower (decimal m) later digits rest (digits_lower (decimal m) other.1) stop (digits_lower digits number.1) ended (sym e ∙ split) in
+    (ap Number (sym other.2 ∙ ap (digits_value 10) same.0 ∙ number.2), sym same.1)
+numeral_is text rest n (digits, number, split) ended (Text t) later fit again stop e =
+    let same = same_front is_lower t later digits rest again.1 stop (digits_lower digits number.1) ended (sym e ∙ split) in
+    let numeral : is_numeral digits ≡ true = rw (number.1, number.2, lt-ltb n (2 ^ 64) number.3) refl in
+    absurd (true≢false (sym numeral ∙ sym (ap is_numeral same.0) ∙ again.2))
 
-lower_digit : (n : ℕ) → n < 10 → list_all is_lower ((48 + n) ∷ []) ≡ true
-lower_digit n small = grind (arith, nat_tests)
+-- and where none is, it is the string
+pub string_is : (text segment rest : List ℕ) → NoNumeral text → text ≡ segment ++ rest → list_all is_lower segment ≡ true → starts is_lower rest ≡ false
+    → (s : LocalSegmentValue) (later : List ℕ) → SegmentFits s → SegmentRoundTrips s → starts is_lower later ≡ false → text ≡ print_segment s ++ later → (s ≡ Text segment) × (rest ≡ later)
+string_is text segment rest none split lower ended (Number m) later fit again stop e = absurd (none (decimal m) later m (decimal_number m fit) stop e)
+string_is text segment rest none split lower ended (Text t) later fit again stop e =
+    let same = same_front is_lower t later segment rest again.1 stop lower ended (sym e ∙ split) in
+    (ap Text same.0, sym same.1)
 
-lower_print : (s : LocalSegmentValue) → SegmentRoundTrips s → IsShortSegment s → list_all is_lower (print_segment s) ≡ true
-lower_print (Text t) again one = again.1
-lower_print (Number n) again one = ap (list_all is_lower) (decimal_digit n one) ∙ lower_digit n one
-
-some_print : (s : LocalSegmentValue) → SegmentRoundTrips s → IsShortSegment s → 0 < length (print_segment s)
-some_print (Text t) again one = again.0
-some_print (Number n) again one = omega (arith, ap length (decimal_digit n one))
+some_print : (s : LocalSegmentValue) → SegmentFits s → SegmentRoundTrips s → 0 < length (print_segment s)
+some_print (Text t) fit again = again.0
+some_print (Number n) fit again = (decimal_number n fit).0
 
 -- ---- the segments after those that are written
 
@@ -118,73 +119,78 @@ some_print (Number n) again one = omega (arith, ap length (decimal_digit n one))
 pub record AreLeft (rest form whole : List ℕ) : Type 0 where
   pub left : List LocalSegmentValue
   pub some : 0 < length left
+  pub fit : All SegmentFits left
   pub again : All SegmentRoundTrips left
-  pub digits : All IsShortSegment left
   pub is : rest ≡ dotted print_segment left
   pub bytes : form ++ flat_map segment_bytes left ≡ whole
 
-pub all_left : (text old : List ℕ) (segments : List LocalSegmentValue) → 0 < length segments → All SegmentRoundTrips segments → All IsShortSegment segments → text ≡ dotted print_segment segments
+pub all_left : (text old : List ℕ) (segments : List LocalSegmentValue) → 0 < length segments → All SegmentFits segments → All SegmentRoundTrips segments → text ≡ dotted print_segment segments
     → AreLeft text old (old ++ flat_map segment_bytes segments)
-all_left text old segments some again digits is = record { left = segments; some = some; again = again; digits = digits; is = is; bytes = refl }
+all_left text old segments some fit again is = record { left = segments; some = some; fit = fit; again = again; is = is; bytes = refl }
 
 pub whole_fits : (old : List ℕ) (segments : List LocalSegmentValue) → length old + length (flat_map segment_bytes segments) ≤ 64 → length (old ++ flat_map segment_bytes segments) ≤ 64
 whole_fits old segments fits = omega (arith, fits, length-append old (flat_map segment_bytes segments))
 
 -- segments, each after a dot
-abbrev dotted_more : List LocalSegmentValue → List ℕ
+abbrev pub dotted_more : List LocalSegmentValue → List ℕ
 dotted_more others = flat_map (λ y. codes "." ++ print_segment y) others
 
-some_of : (left : List LocalSegmentValue) → 0 < length left → All SegmentRoundTrips left → All IsShortSegment left → 0 < length (dotted print_segment left)
-some_of [] some again digits = absurd (omega (arith, some))
-some_of (s ∷ others) some again digits =
-    omega (arith, some_print s (again 0 s (omega arith)) (digits 0 s (omega arith)), length-append (print_segment s) (dotted_more others))
+some_of : (left : List LocalSegmentValue) → 0 < length left → All SegmentFits left → All SegmentRoundTrips left → 0 < length (dotted print_segment left)
+some_of [] some fit again = absurd (omega (arith, some))
+some_of (s ∷ others) some fit again =
+    omega (arith, some_print s (fit 0 s (omega arith)) (again 0 s (omega arith)), length-append (print_segment s) (dotted_more others))
 
 pub some_left : {rest form whole : List ℕ} → AreLeft rest form whole → 0 < length rest
-some_left h = omega (arith, ap length h.is, some_of h.left h.some h.again h.digits)
+some_left h = omega (arith, ap length h.is, some_of h.left h.some h.fit h.again)
 
 -- ---- one of them is written
 
 -- what follows it are the others
 pub record AreAfter (after form whole : List ℕ) : Type 0 where
   pub others : List LocalSegmentValue
+  pub fit : All SegmentFits others
   pub again : All SegmentRoundTrips others
-  pub digits : All IsShortSegment others
   pub is : after ≡ dotted_more others
   pub bytes : form ++ flat_map segment_bytes others ≡ whole
+
+-- the first segment that is left, and the others
+pub record FirstLeft (rest form whole : List ℕ) : Type 0 where
+  pub first : LocalSegmentValue
+  pub others : List LocalSegmentValue
+  pub fit : SegmentFits first
+  pub again : SegmentRoundTrips first
+  pub ended : starts is_lower (dotted_more others) ≡ false
+  pub is : rest ≡ print_segment first ++ dotted_more others
+  pub fits : length form + length (segment_bytes first) ≤ 64
+  pub after : (later new : List ℕ) → later ≡ dotted_more others → new ≡ form ++ segment_bytes first → AreAfter later new whole
 
 no_lower : (others : List LocalSegmentValue) → starts is_lower (dotted_more others) ≡ false
 no_lower [] = refl
 no_lower (s ∷ others) = refl
 
--- the string of the first of them is written so
-abbrev pub IsPushed : Type 0 → List ℕ → List ℕ → List ℕ → Type 0
-IsPushed Done first form new =
-    (s : LocalSegmentValue) → SegmentRoundTrips s → IsShortSegment s → first ≡ print_segment s → length form + length (segment_bytes s) ≤ 64 → Done × (new ≡ form ++ segment_bytes s)
-
-after_of : {Done : Type 0} (left : List LocalSegmentValue) (rest first after form new whole : List ℕ) → 0 < length left → All SegmentRoundTrips left → All IsShortSegment left
-    → rest ≡ dotted print_segment left → form ++ flat_map segment_bytes left ≡ whole → length whole ≤ 64 → rest ≡ first ++ after → list_all is_lower first ≡ true → starts is_lower after ≡ false
-    → IsPushed Done first form new → Done × AreAfter after new whole
-after_of [] rest first after form new whole some again digits is bytes fits joined lower ended pushed = absurd (omega (arith, some))
-after_of (s ∷ others) rest first after form new whole some again digits is bytes fits joined lower ended pushed =
-    let one = again 0 s (omega arith) in
-    let digit = digits 0 s (omega arith) in
-    let same = same_front is_lower first after (print_segment s) (dotted_more others) lower ended (lower_print s one digit) (no_lower others) (sym joined ∙ is) in
-    let more = flat_map segment_bytes others in
-    let capacity : length form + length (segment_bytes s) ≤ 64 = omega (arith, fits, ap length bytes, length-append form (segment_bytes s ++ more), length-append (segment_bytes s) more) in
-    let done = pushed s one digit same.0 capacity in (
-      done.0,
-      record {
-        others = others;
-        again = λ k d lt. again (suc k) d (omega (arith, lt));
-        digits = λ k d lt. digits (suc k) d (omega (arith, lt));
-        is = same.1;
-        bytes = ap (λ l. l ++ more) done.1 ∙ append_assoc form (segment_bytes s) more ∙ bytes;
-      },
-    )
-
-pub one_more : {Done : Type 0} {rest first after form new whole : List ℕ} → AreLeft rest form whole → length whole ≤ 64
-    → rest ≡ first ++ after → list_all is_lower first ≡ true → starts is_lower after ≡ false → IsPushed Done first form new → Done × AreAfter after new whole
-one_more h fits joined lower ended pushed = after_of h.left _ _ _ _ _ _ h.some h.again h.digits h.is h.bytes fits joined lower ended pushed
+pub first_left : {rest form whole : List ℕ} → AreLeft rest form whole → length whole ≤ 64 → FirstLeft rest form whole
+first_left {rest} {form} {whole} h small = by h.left h.some h.fit h.again h.is h.bytes
+  where
+    by : (left : List LocalSegmentValue) → 0 < length left → All SegmentFits left → All SegmentRoundTrips left → rest ≡ dotted print_segment left → form ++ flat_map segment_bytes left ≡ whole → FirstLeft rest form whole
+    by [] some fit again is bytes = absurd (omega (arith, some))
+    by (s ∷ others) some fit again is bytes =
+        let more = flat_map segment_bytes others in
+        record {
+          first = s;
+          others = others;
+          fit = fit 0 s (omega arith);
+          again = again 0 s (omega arith);
+          ended = no_lower others;
+          is = is;
+          fits = omega (arith, small, ap length bytes, length-append form (segment_bytes s ++ more), length-append (segment_bytes s) more);
+          after = λ later new rest_is new_is. record {
+            others = others;
+            fit = λ k d lt. fit (suc k) d (omega (arith, lt));
+            again = λ k d lt. again (suc k) d (omega (arith, lt));
+            is = rest_is;
+            bytes = ap (λ l. l ++ more) new_is ∙ append_assoc form (segment_bytes s) more ∙ bytes;
+          };
+        }
 
 last_of : (others : List LocalSegmentValue) (form whole : List ℕ) → dotted_more others ≡ [] → form ++ flat_map segment_bytes others ≡ whole → form ≡ whole
 last_of [] form whole none bytes = sym (append-nil form) ∙ bytes
@@ -202,13 +208,13 @@ dot_of (s ∷ others) some = refl
 pub dot_after : {after form whole : List ℕ} → AreAfter after form whole → 0 < length after → get_or after 0 0 ≡ 46
 dot_after h some = ap (λ l. get_or l 0 0) h.is ∙ dot_of h.others (omega (arith, some, ap length h.is))
 
-left_of : (others : List LocalSegmentValue) (later form whole : List ℕ) → All SegmentRoundTrips others → All IsShortSegment others
+left_of : (others : List LocalSegmentValue) (later form whole : List ℕ) → All SegmentFits others → All SegmentRoundTrips others
     → dotted_more others ≡ 46 ∷ later → form ++ flat_map segment_bytes others ≡ whole → AreLeft later form whole
-left_of [] later form whole again digits dot bytes = absurd (omega (arith, ap length dot))
-left_of (s ∷ others) later form whole again digits dot bytes = record { left = s ∷ others; some = omega arith; again = again; digits = digits; is = ap (drop 1) (sym dot); bytes = bytes }
+left_of [] later form whole fit again dot bytes = absurd (omega (arith, ap length dot))
+left_of (s ∷ others) later form whole fit again dot bytes = record { left = s ∷ others; some = omega arith; fit = fit; again = again; is = ap (drop 1) (sym dot); bytes = bytes }
 
 pub left_after : {after later form whole : List ℕ} → AreAfter after form whole → after ≡ 46 ∷ later → AreLeft later form whole
-left_after h dot = left_of h.others _ _ _ h.again h.digits (sym h.is ∙ dot) h.bytes
+left_after h dot = left_of h.others _ _ _ h.fit h.again (sym h.is ∙ dot) h.bytes
 
 -- ---- a local part
 
@@ -310,11 +316,6 @@ number_pushed form one two old numbers zeros number other first second count is 
 
 pub parts_denoted : (text new : List ℕ) (r : Record) → Derives text r → new ≡ compiled_bytes r → (r : Record) × Derives text r × DenotesVersion new r
 parts_denoted text new r d same = (r, d, record { parsed = parsed text r d; same = same })
-
--- no local part begins with a dot
-pub no_dot : (local : List LocalSegmentValue) (rest : List ℕ) → rest ≡ local_text local → 0 < length rest → get_or rest 0 0 ≡ 46 → ⊥
-no_dot [] rest e some is = omega (arith, some, ap length e)
-no_dot (s ∷ local) rest e some is = omega (arith, is, ap (λ l. get_or l 0 0) e)
 
 -- the parts of a form, as they are written
 regroup : (old epoch numbers stage post dev local zeros : List ℕ) → (((((old ++ 4 ∷ []) ++ epoch) ++ numbers) ++ 0 ∷ (stage ++ post ++ dev)) ++ local) ++ zeros

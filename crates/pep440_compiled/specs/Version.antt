@@ -1,10 +1,9 @@
 -- The bytes of a compiled version: its sort key, and the one thing that the key leaves out, how many zeros end the release.
-use Rattle.std.specs.Prelude.{◌≡◌, ℕ, ◌<◌, ◌≤◌, List, ◌∷◌, ◌++◌, Some, false, drop, length, map, slice_get}
+use Rattle.std.specs.Prelude.{◌≡◌, ℕ, ◌≤◌, List, ◌∷◌, ◌++◌, Some, false, drop, length, map, slice_get}
 use Rattle.std.specs.Char.{is_ascii_digit}
-use Rattle.std.specs.List.{All, list_all}
 use Rattle.pep440_keys.specs.SortKeys.{key_bytes}
-use Rattle.pep440_version.specs.Normal.{HasSmallParts}
-use Rattle.pep440_version.specs.Record.{LocalSegmentValue, Number, Record, Text}
+use Rattle.pep440_version.specs.Grammar.{starts}
+use Rattle.pep440_version.specs.Record.{Record}
 use Rattle.pep440_version.specs.RoundTrip.{IsParsed}
 use Rattle.pep440_version.specs.Key.Trim.{trim}
 
@@ -29,15 +28,11 @@ pub record DenotesVersion (bytes : List ℕ) (r : Record) : Type 0 where
   pub parsed : IsParsed r
   pub same : bytes ≡ compiled_bytes r
 
--- a number of one digit, or a string that has a letter: one of digits alone is that of a number from 2^64 on
-abbrev pub IsShortSegment : LocalSegmentValue → Type 0
-IsShortSegment (Text t) = list_all is_ascii_digit t ≡ false
-IsShortSegment (Number n) = n < 10
-
--- the records whose normalized form is compiled before a version is made: with small parts, short local segments, and at most 64
--- bytes
+-- the records whose compiled form has at most 64 bytes: a string in normal form is compiled to it without an allocation
 pub record HasShortForm (r : Record) : Type 0 where
   pub parsed : IsParsed r
-  pub parts : HasSmallParts r
-  pub local : All IsShortSegment r.local
   pub bytes : length (compiled_bytes r) ≤ 64
+
+-- no release goes on here: neither with a digit nor with a dot and a digit
+abbrev pub EndsRelease : List ℕ → Type 0
+EndsRelease text = (starts is_ascii_digit text ≡ false) × ((rest : List ℕ) → text ≡ 46 ∷ rest → starts is_ascii_digit rest ≡ false)

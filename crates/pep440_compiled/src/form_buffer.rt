@@ -7,7 +7,7 @@ ghost use Rattle.pep440_version.specs.Print.{print};
 ghost use Rattle.pep440_version.specs.Record.{Record};
 
 use crate::error::CompileStringError;
-use crate::stack_form::{compile_normal, compile_parts};
+use crate::stack_form::compile_parts;
 use crate::version::push_compiled_form;
 use arrayvec::ArrayVec;
 use pep440_version::Version;
@@ -65,9 +65,7 @@ impl FormBuffer {
     /// The compiled form of the version that the string of these bytes parses to (PEP 440, "Public version identifiers"), as
     /// `compile_version` makes it of the parsed version; an error if the string is rejected. What the buffer had is overwritten.
     ///
-    /// Does not allocate for the normalized form of a version whose compiled form has at most 64 bytes, if it has up to four release
-    /// numbers, none of its numbers above 2147483647, and no local segment of digits, but of one. Nor does it for longer numbers in the local part, for
-    /// releases of more or larger numbers, and in other spellings of their pre-releases.
+    /// Does not allocate for the normalized form of a version whose compiled form has at most 64 bytes, nor for other spellings of its pre-release.
     #[inline(always)]
     pub fn compile<'a>(
         &'a mut self,
@@ -80,25 +78,6 @@ impl FormBuffer {
     {
         self.stack.clear();
         if compile_parts(&mut self.stack, text) {
-            return Ok(self.stack.as_slice());
-        }
-        self.compile_other(alloc, text)
-    }
-
-    // As `compile`, of a string in another spelling. A call of its own, since few are.
-    #[inline(never)]
-    fn compile_other<'a>(
-        &'a mut self,
-        alloc: Global,
-        text: &[u8],
-    ) -> Result<&'a [u8], CompileStringError>
-        ensures found { IfOk result (λ form. (r : Record) × Derives text.now r × DenotesVersion form.now r) }
-        ensures rejected { IfErr result (IsCompileStringError text.now) }
-        ensures memory { (r : Record) → HasShortForm r → text.now ≡ print r → IsOk result }
-    {
-        // The pass before takes as many strings, but of this one it is proved.
-        self.stack.clear();
-        if compile_normal(&mut self.stack, text) {
             return Ok(self.stack.as_slice());
         }
         self.heap = parse_and_compile(alloc, text)?;

@@ -1,5 +1,5 @@
 -- Numbers by their bytes: of as many bytes the greatest first decides, and without the zeros in front how many there are; and capacity for bytes and their parts.
-use Rattle.std.proofs.Common.{◌≡◌, ◌∙◌, ℕ, zero, suc, ◌+◌, ◌*◌, ◌/◌, ◌%◌, ◌^◌, ◌<◌, ◌≤◌, List, [], ◌∷◌, ◌++◌, refl, sym, ap, add-zero, append_assoc, arith, length, Option, None, if◌then◌else◌, drop, get_or, subst}
+use Rattle.std.proofs.Common.{◌≡◌, ◌∙◌, ℕ, zero, suc, ◌+◌, ◌*◌, ◌/◌, ◌%◌, ◌^◌, ◌<◌, ◌≤◌, List, [], ◌∷◌, ◌++◌, refl, sym, ap, add-zero, append_assoc, arith, length, Option, None, if◌then◌else◌, subst}
 use Rattle.std.proofs.Math.Arith.{mod-mul}
 use Rattle.std.proofs.Math.Dec.{eqb-suc-zero}
 use Rattle.std.proofs.Math.Nat.{div-one, div-eq_of_lt, mod-one, mod-lt, mod-eq_of_lt, one-le-pow, pow-succ', zero-lt-suc}
@@ -15,7 +15,7 @@ use Rattle.pep440_version.specs.Record.{Fits, from_release}
 use Rattle.pep440_version.specs.Key.Trim.{trim}
 use Rattle.pep440_version.specs.declared.prerelease.Prerelease.{Prerelease}
 use Rattle.pep440_keys.specs.SortKeys.{key_bytes, needed_bytes, number_bytes, rank_bytes, trim_leading_zeros}
-use Rattle.std.proofs.lemmas.List.{drop_more, length-append}
+use Rattle.std.proofs.lemmas.List.{length-append}
 
 -- ---- numbers by their bytes: of as many bytes the greatest first decides, and without the zeros in front how many there are
 
@@ -177,25 +177,3 @@ module _ (HasCapacity : ℕ → Type 0) where
 
   pub capacity_for_three : (first second third : List ℕ) (more : ℕ) → HasCapacity (length (first ++ second ++ third) + more) → HasCapacity (length first + (length second + (length third + more)))
   capacity_for_three first second third more = subst HasCapacity (omega (arith, length-append (first ++ second) third, length-append first second))
-
-  -- for the next item, and for those after it
-  pub capacity_for_next : (code : ℕ → List ℕ) (items : List ℕ) (k more : ℕ) → k < length items → HasCapacity (length (flat_map code (drop k items)) + more)
-      → HasCapacity (length (code (get_or items k 0)) + (length (flat_map code (drop (k + 1) items)) + more))
-  capacity_for_next code items k more inside capacity =
-      capacity_for_two (code (get_or items k 0)) (flat_map code (drop (k + 1) items)) more (subst (λ l. HasCapacity (length (flat_map code l) + more)) (drop_more items k 0 inside) capacity)
-
-  -- a key's epoch, its release, what follows it and the local part
-  pub capacity_for_key : (epoch release stage post dev local : List ℕ) (more : ℕ) → HasCapacity (length (epoch ++ (release ++ 0 ∷ []) ++ stage ++ post ++ dev ++ local) + more)
-      → HasCapacity (length epoch + (length release + (length (0 ∷ (stage ++ post ++ dev)) + (length local + more))))
-  capacity_for_key epoch release stage post dev local more =
-      subst HasCapacity (omega (
-        arith,
-        length-append (epoch ++ (release ++ 0 ∷ []) ++ stage ++ post ++ dev) local,
-        length-append (epoch ++ (release ++ 0 ∷ []) ++ stage ++ post) dev,
-        length-append (epoch ++ (release ++ 0 ∷ []) ++ stage) post,
-        length-append (epoch ++ (release ++ 0 ∷ [])) stage,
-        length-append epoch (release ++ 0 ∷ []),
-        length-append release (0 ∷ []),
-        length-append (stage ++ post) dev,
-        length-append stage post,
-      ))

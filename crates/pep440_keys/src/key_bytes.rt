@@ -13,10 +13,8 @@ use pep440_version::{LocalSegment, Version};
 use std::alloc::{AllocError, Global};
 
 #[inline(always)]
-pub(crate) fn push_numbers<K: KeySink>(key: &mut K, release: &[u64]) -> Result<(), AllocError>
-    ensures appended { OnOk result (K.written key.new ≡ K.written key.old ++ flat_map (number_bytes 1) (trim release.now)) }
-    ensures fits { (more : ℕ) → K.has_capacity key.old (length (flat_map (number_bytes 1) (trim release.now)) + more)
-        → IsOk result × K.has_capacity key.new more }
+fn push_numbers<K: KeySink>(key: &mut K, release: &[u64]) -> Result<(), AllocError>
+    ensures { OnOk result (K.written key.new ≡ K.written key.old ++ flat_map (number_bytes 1) (trim release.now)) }
 {
     for number in trim_trailing_zeros(release) {
         push_number(key, 1, *number)?;

@@ -15,8 +15,8 @@
 //! the high key, if there is one. No sort key is a prefix of another, so one zero byte after the key of an excluded start or an
 //! included end makes it the low or the high key. So a database can keep sort keys in an index and ask it for the versions of a range.
 //!
-//! In reading order: `key_bytes`, the key of a version; `number_bytes`, the numbers in it; `sink`, what it is appended to; `parts_key`, which
-//! makes no version; `interval` and `range_intervals`, which put keys around segments; and `laws`.
+//! In reading order: `key_bytes`, the key of a version; `number_bytes`, the numbers in it; `sink`, what it is appended to; `parts_key`, the suffix
+//! of a key before a version is made; `interval` and `range_intervals`, which put keys around segments; and `laws`.
 #![tactic(auto)]
 
 mod interval;
@@ -30,6 +30,6 @@ mod sink;
 pub use interval::KeyInterval;
 pub use key_bytes::{push_sort_key, sort_key};
 pub use number_bytes::push_number;
-pub use parts_key::{push_parts_key, push_suffix_of};
+pub use parts_key::push_suffix_of;
 pub use range_intervals::{range_keys, segment_keys};
 pub use sink::KeySink;

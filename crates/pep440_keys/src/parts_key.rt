@@ -1,11 +1,9 @@
-//! The sort key of a version by its parts, before a version is made of them.
-ghost use Rattle.std.specs.Prelude.{◌≡◌, ◌+◌, ◌++◌, ◌∷◌, ℕ, List, None, IsOk, OnOk, length};
-ghost use Rattle.pep440_keys.specs.SortKeys.{key_bytes, local_bytes, rank_bytes};
+//! What follows the release in the sort key of a version, by its parts, before a version is made of them.
+ghost use Rattle.std.specs.Prelude.{◌≡◌, ◌+◌, ◌++◌, ◌∷◌, ℕ, None, IsOk, OnOk, length};
+ghost use Rattle.pep440_keys.specs.SortKeys.{rank_bytes};
 ghost use Rattle.pep440_version.specs.Key.{Pre, dev_of, dev_rank, post_of, post_rank, stage_of, stage_rank};
-ghost use Rattle.pep440_version.specs.Record.{LocalSegmentValue, from_parts};
 
-use crate::key_bytes::{push_numbers, push_suffix};
-use crate::number_bytes::push_number;
+use crate::key_bytes::push_suffix;
 use crate::sink::KeySink;
 use pep440_version::key::RankedNumber;
 use pep440_version::{Prerelease, PrereleaseKind};
@@ -85,27 +83,4 @@ pub fn push_suffix_of<K: KeySink>(
         rank_post(post),
         rank_dev(dev),
     )
-}
-
-/// Appends the sort key of the version of these parts, up to its local part, whose bytes follow; an error where `append` gives
-/// one. Allocates as `append` does.
-#[inline(always)]
-pub fn push_parts_key<K: KeySink>(
-    key: &mut K,
-    epoch: u64,
-    release: &[u64],
-    pre: Option<Prerelease>,
-    post: Option<u64>,
-    dev: Option<u64>,
-) -> Result<(), AllocError>
-    ensures appended { (local : List LocalSegmentValue)
-        → OnOk result (K.written key.new ++ local_bytes local
-        ≡ K.written key.old ++ key_bytes (from_parts epoch release.now pre post dev local)) }
-    ensures fits { (local : List LocalSegmentValue) (more : ℕ)
-        → K.has_capacity key.old (length (key_bytes (from_parts epoch release.now pre post dev local)) + more)
-        → IsOk result × K.has_capacity key.new (length (local_bytes local) + more) }
-{
-    push_number(key, 0, epoch)?;
-    push_numbers(key, release)?;
-    push_suffix_of(key, pre, post, dev)
 }
