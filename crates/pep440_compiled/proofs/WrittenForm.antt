@@ -1,32 +1,32 @@
 -- A compiled form that is written part by part.
-use Rattle.std.proofs.Common.{◌≡◌, ◌∙◌, ◌<◌, ◌-◌, ℕ, zero, List, [], ◌∷◌, ◌++◌, Option, None, Some, true, false, ap, inr, refl, sym, subst, append_assoc, arith, true≢false, ◌≤◌, ◌+◌, suc, codes, drop, get_or, length, take, ◌^◌, IfSome, is_none}
-use Rattle.std.proofs.lemmas.Bool.{lt-ltb}
-use Rattle.std.proofs.lemmas.Bool.Decides.{nat_tests}
+use Rattle.std.proofs.Common.{◌≡◌, ◌∙◌, ◌<◌, ◌-◌, ℕ, zero, List, [], ◌∷◌, ◌++◌, Option, None, Some, true, false, ap, inr, refl, sym, subst, append_assoc, arith, true≢false, ◌≤◌, ◌+◌, suc, codes, drop, get_or, length, take, ◌^◌, IfSome, is_none, ◌||◌, ◌==◌, inl, nat_lt}
+use Rattle.std.proofs.lemmas.Bool.{cases_Bool, lt-ltb, ltb-true}
 use Rattle.std.proofs.lemmas.Grind.{flat_map-append}
 use Rattle.std.proofs.lemmas.List.{append-nil, length-append, nil_from_length, take-append-drop}
-use Rattle.std.specs.Char.{is_ascii_alphanumeric, is_ascii_digit}
+use Rattle.std.specs.Char.{is_ascii_alphanumeric, is_ascii_digit, is_ascii_lowercase}
+use Rattle.std.specs.Fmt.{decimal}
 use Rattle.std.specs.List.{flat_map, list_all, All}
 use Rattle.std.specs.Prelude.{replicate}
+use Rattle.std.specs.Str.Parse.{digits_value}
 use Rattle.pep440_rs.proofs.Reread.Plain.{all_weaker}
 use Rattle.pep440_version.specs.Rejections.{Rejection, Rejects}
 use Rattle.pep440_keys.specs.SortKeys.{local_bytes, number_bytes, rank_bytes, segment_bytes}
 use Rattle.pep440_version.proofs.Reading.LocalAgrees.{segments_cons}
-use Rattle.pep440_version.proofs.RoundTrip.PrintIsRead.{segment_reads}
+use Rattle.pep440_version.proofs.RoundTrip.PrintIsRead.{decimal_number, segment_reads}
 use Rattle.pep440_version.proofs.Reading.NormalParts.{Digits, release_more}
 use Rattle.pep440_version.specs.Normal.{HasSuffix, spelling}
-use Rattle.pep440_version.specs.Grammar.{AreSegments, Derives, IsNumber, IsPre, IsRelease, IsSegment, IsSeparator, IsSpelling, pre_spellings, starts}
+use Rattle.pep440_version.specs.Grammar.{AreSegments, Derives, IsNumber, IsPre, IsRelease, IsSegment, IsSeparator, IsSpelling, is_numeral, pre_spellings, starts}
 use Rattle.pep440_version.specs.Key.{dev_of, dev_rank, post_of, post_rank, stage_of, stage_rank}
 use Rattle.pep440_version.specs.Key.Trim.{trim}
-use Rattle.pep440_version.specs.Record.{Fits, LocalSegmentValue, Record, Text, Number, from_parts}
+use Rattle.pep440_version.specs.Record.{Fits, LocalSegmentValue, Record, SegmentFits, Text, Number, from_parts}
 use Rattle.pep440_version.specs.RoundTrip.{is_lower, SegmentRoundTrips}
-use Rattle.std.proofs.lemmas.Fmt.{decimal_digit, digits_decimal}
 use Rattle.pep440_compiled.proofs.Checking.{ones}
-use Rattle.pep440_compiled.proofs.Fronts.{parsed, none_needed}
+use Rattle.pep440_compiled.proofs.Fronts.{parsed}
+use Rattle.pep440_compiled.proofs.PrintedParts.{untrimmed}
 use Rattle.pep440_compiled.proofs.Fronts as release
 use Rattle.pep440_compiled.specs.KeyParts.{ending_zeros}
-use Rattle.pep440_compiled.specs.Version.{DenotesVersion, IsShortSegment, compiled_bytes, zero_bytes}
-use Rattle.pep440_version.proofs.Reading.Digits.{digits_model}
-use Rattle.pep440_version.proofs.Reading.Prefixes.{same_front}
+use Rattle.pep440_compiled.specs.Version.{DenotesVersion, compiled_bytes, zero_bytes}
+use Rattle.pep440_version.proofs.Reading.Prefixes.{both_first, both_second, same_front}
 use Rattle.pep440_version.specs.Print.{dotted, local_text, print_segment}
 use Rattle.pep440_version.specs.declared.prerelease.Prerelease.{Prerelease}
 use Rattle.pep440_version.specs.declared.prerelease.PrereleaseKind.{PrereleaseKind}
@@ -46,8 +46,9 @@ NoNumeral text = (digits rest : List ℕ) (n : ℕ) → IsNumber digits n → st
 pub string_segment : (text segment rest : List ℕ) → NoNumeral text → text ≡ segment ++ rest → 0 < length segment → list_all is_lower segment ≡ true → starts is_lower rest ≡ false → IsSegment segment (Text segment)
 string_segment text segment rest none split some lower ended = segment_reads (Text segment) tt (some, lower, elim (cases_Bool (is_numeral segment)) [
   | inl e ↦
-      let both = both_true (list_all is_ascii_digit segment) (nat_lt (digits_value 10 segment) (2 ^ 64)) e in
-      absurd (none segment rest (digits_value 10 segment) (some, both.0, refl, ltb-lt _ _ both.1) ended split)
+      let all = both_first (list_all is_ascii_digit segment) _ e in
+      let fits = ltb-true _ _ (both_second (list_all is_ascii_digit segment) _ e) in
+      absurd (none segment rest (digits_value 10 segment) (some, all, refl, fits) ended split)
   | inr e ↦ e
 ])
 
@@ -84,7 +85,23 @@ pub last_segment : (text rest old form new first : List ℕ) (s : LocalSegmentVa
 last_segment text rest old form new first s before joined is next =
     (before.seen ++ s ∷ [], before.whole (s ∷ []) (subst (λ t. IsSegment t s) (sym joined) is), one_written old form new before.seen s before.written next)
 
+pub some_bytes : (bytes : List ℕ) → (length bytes == 0) ≡ false → 0 < length bytes
+some_bytes [] none = absurd (true≢false none)
+some_bytes (b ∷ bytes) none = omega arith
+
+-- what follows the same bytes is the same
+pub same_after : (front a b : List ℕ) → front ++ a ≡ front ++ b → a ≡ b
+same_after [] a b e = e
+same_after (x ∷ front) a b e = same_after front a b (ap (drop 1) e)
+
 -- ---- a segment, by its string
+
+pub no_digit : (text : List ℕ) → starts is_lower text ≡ false → starts is_ascii_digit text ≡ false
+no_digit [] none = refl
+no_digit (b ∷ rest) none = elim (cases_Bool (is_ascii_digit b)) [
+  | inl e ↦ absurd (true≢false (sym (ap (λ d. d || is_ascii_lowercase b) e) ∙ none))
+  | inr e ↦ e
+]
 
 digits_lower : (digits : List ℕ) → list_all is_ascii_digit digits ≡ true → list_all is_lower digits ≡ true
 digits_lower digits all = all_weaker is_ascii_digit is_lower (λ b is. rw is refl) digits all
@@ -286,11 +303,6 @@ labelled_number word text after rest class n is split number ended = (number.0, 
 
 -- ---- and of its bytes
 
--- the bytes of zeros are ones
-zeros_are_ones : (k : ℕ) → flat_map (number_bytes 1) (replicate k 0) ≡ replicate k 1
-zeros_are_ones zero = refl
-zeros_are_ones (suc k) = λ i. ((1 + length (none_needed i)) ∷ none_needed i) ++ zeros_are_ones k i
-
 -- a zero more is not written yet
 pub zero_pushed : (form old numbers : List ℕ) (before ending number : ℕ) → number ≡ 0 → ending ≡ before + 1 → before ≡ ending_zeros numbers → form ≡ old ++ flat_map (number_bytes 1) (trim numbers)
     → (ending ≡ ending_zeros (numbers ++ number ∷ [])) × (form ≡ old ++ flat_map (number_bytes 1) (trim (numbers ++ number ∷ [])))
@@ -305,9 +317,7 @@ pub number_pushed : (form one two old numbers : List ℕ) (zeros number : ℕ) �
 number_pushed form one two old numbers zeros number other first second count is =
     let code : List ℕ → List ℕ = flat_map (number_bytes 1) in
     let trimmed : trim (numbers ++ number ∷ []) ≡ numbers ++ number ∷ [] = release.number_more numbers number other in
-    let all : code numbers ≡ code (trim numbers) ++ replicate zeros 1 =
-    ap code (release.trim_pad numbers) ∙ flat_map-append (number_bytes 1) (trim numbers) (replicate (ending_zeros numbers) 0)
-    ∙ ap (λ l. code (trim numbers) ++ l) (zeros_are_ones (ending_zeros numbers) ∙ ap (λ k. replicate k 1) (sym count)) in (
+    let all : code numbers ≡ code (trim numbers) ++ replicate zeros 1 = untrimmed numbers ∙ ap (λ k. code (trim numbers) ++ replicate k 1) (sym count) in (
       sym (release.trimmed_zeros (numbers ++ number ∷ []) trimmed),
       second ∙ ap (λ l. l ++ number_bytes 1 number) (first ∙ ap (λ l. l ++ replicate zeros 1) is ∙ append_assoc old (code (trim numbers)) (replicate zeros 1) ∙ ap (λ l. old ++ l) (sym all))
           ∙ append_assoc old (code numbers) (number_bytes 1 number)

@@ -1,5 +1,5 @@
 //! The compiled form of a string, written part by part before a version is made of them.
-ghost use Rattle.std.specs.Prelude.{◌≡◌, ◌+◌, ◌++◌, ◌-◌, ◌<◌, ◌≤◌, ◌==◌, ◌∷◌, ℕ, List, [], codes, length, replicate, Option, Some, None, Ok, IfOk, IfSome, IsOk, MatchOption, MatchResult, OnOk, false, true};
+ghost use Rattle.std.specs.Prelude.{◌≡◌, ◌+◌, ◌++◌, ◌-◌, ◌<◌, ◌≤◌, ◌==◌, ◌∷◌, ◌⊎◌, ℕ, List, [], codes, length, replicate, Option, Some, None, Ok, IfOk, IfSome, IsOk, MatchOption, MatchResult, OnOk, false, true};
 ghost use Rattle.std.specs.Char.{is_ascii_digit};
 ghost use Rattle.std.specs.Fmt.{decimal};
 ghost use Rattle.std.specs.List.{All, flat_map, list_all, prefix_len};
@@ -103,7 +103,8 @@ fn push_text(form: &mut ArrayVec<u8, 64>, text: &[u8]) -> Result<(), AllocError>
 {
     form.append(&[1])?;
     form.append(text)?;
-    form.append(&[0])
+    form.append(&[0])?;
+    Ok(())
 }
 
 // Appends the bytes of the leading segment of lower-case letters and digits, and returns the rest; `None` if there is none.
@@ -180,7 +181,7 @@ fn push_local(form: &mut ArrayVec<u8, 64>, text: &[u8]) -> Result<bool, AllocErr
 // Whether it is no local part, or begins as one.
 #[inline(always)]
 fn begins_local(text: &[u8]) -> bool
-    ensures { (local : List LocalSegmentValue) → text.now ≡ local_text local → result ≡ true }
+    ensures { result ≡ true → (text.now ≡ []) ⊎ (starts (λ b. b == 43) text.now ≡ true) }
 {
     matches!(text, [] | [b'+', ..])
 }

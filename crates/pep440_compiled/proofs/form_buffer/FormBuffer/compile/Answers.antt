@@ -1,6 +1,6 @@
 use Rattle.std.proofs.Common.{◌∙◌, refl}
 use Rattle.pep440_compiled.proofs.Fronts.{parsed}
-use Rattle.pep440_compiled.proofs.form_buffer.FormBuffer.compile_other.Goals as goal
+use Rattle.pep440_compiled.proofs.form_buffer.FormBuffer.compile.Goals as goal
 
 pub returns : goal.returns
 returns c =
