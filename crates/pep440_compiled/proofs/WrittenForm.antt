@@ -2,7 +2,7 @@
 use Rattle.std.proofs.Common.{◌≡◌, ◌∙◌, ◌<◌, ◌-◌, ℕ, zero, List, [], ◌∷◌, ◌++◌, Option, None, Some, true, false, ap, inr, refl, sym, subst, append_assoc, arith, true≢false, ◌≤◌, ◌+◌, suc, codes, drop, get_or, length, take, ◌^◌, IfSome, is_none, ◌||◌, ◌==◌, inl, nat_lt}
 use Rattle.std.proofs.lemmas.Bool.{cases_Bool, lt-ltb, ltb-true}
 use Rattle.std.proofs.lemmas.Grind.{flat_map-append}
-use Rattle.std.proofs.lemmas.List.{append-nil, length-append, nil_from_length, take-append-drop}
+use Rattle.std.proofs.lemmas.List.{append-nil, length-append, length-replicate, nil_from_length, take-append-drop}
 use Rattle.std.specs.Char.{is_ascii_alphanumeric, is_ascii_digit, is_ascii_lowercase}
 use Rattle.std.specs.Fmt.{decimal}
 use Rattle.std.specs.List.{flat_map, list_all, All}
@@ -322,6 +322,22 @@ number_pushed form one two old numbers zeros number other first second count is 
       second ∙ ap (λ l. l ++ number_bytes 1 number) (first ∙ ap (λ l. l ++ replicate zeros 1) is ∙ append_assoc old (code (trim numbers)) (replicate zeros 1) ∙ ap (λ l. old ++ l) (sym all))
           ∙ append_assoc old (code numbers) (number_bytes 1 number)
           ∙ ap (λ l. old ++ l) (ap (λ l. code numbers ++ l) (sym (append-nil (number_bytes 1 number))) ∙ sym (flat_map-append (number_bytes 1) numbers (number ∷ [])) ∙ ap code (sym trimmed)),
+    )
+
+-- a release takes its bytes, and a byte for each zero that is still to be written
+pub release_written : (old new numbers release : List ℕ) (ending : ℕ) → numbers ≡ release → ending ≡ ending_zeros numbers → new ≡ old ++ flat_map (number_bytes 1) (trim numbers)
+    → length new + ending ≡ length old + length (flat_map (number_bytes 1) release)
+release_written old new numbers release ending same count is =
+    let code = flat_map (number_bytes 1) (trim numbers) in
+    omega (
+      arith,
+      count,
+      ap length is,
+      length-append old code,
+      ap length (untrimmed numbers),
+      length-append code (replicate (ending_zeros numbers) 1),
+      length-replicate {A = ℕ} (ending_zeros numbers) 1,
+      ap (λ ns. length (flat_map (number_bytes 1) ns)) same,
     )
 
 pub parts_denoted : (text new : List ℕ) (r : Record) → Derives text r → new ≡ compiled_bytes r → (r : Record) × Derives text r × DenotesVersion new r
