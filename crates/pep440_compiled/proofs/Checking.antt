@@ -143,17 +143,10 @@ zeros_written release kept end e s =
     ∙ ap (λ n. replicate n 1) (sym (length-drop (length (trim release)) release))
     ∙ sym (ones (drop (length (trim release)) release))
 
-pub zeros_long : (release kept : List ℕ) → kept ≡ trim release → length (zero_bytes release) ≡ length release - length kept
-zeros_long release kept e = length-map (drop (length (trim release)) release) (λ _. 1) ∙ length-drop (length (trim release)) release ∙ ap (λ l. length release - length l) (sym e)
-
 pub one_written : (old seen new : List ℕ) (counter kept : ℕ) → kept ≤ counter → seen ≡ old ++ replicate (counter - kept) 1 → new ≡ seen ++ 1 ∷ [] → new ≡ old ++ replicate (counter + 1 - kept) 1
 one_written old seen new counter kept le s e =
     let next : counter + 1 - kept ≡ counter - kept + 1 = omega (arith, le) in
     e ∙ ap (λ l. l ++ 1 ∷ []) s ∙ append_assoc old (replicate (counter - kept) 1) (1 ∷ []) ∙ ap (λ l. old ++ l) (replicate_more (counter - kept) 1 ∙ ap (λ n. replicate n 1) (sym next))
-
--- capacity for a form is capacity for the format byte, the key and these zeros
-pub capacity_for_form : (old : List ℕ) (r : Record) → length old + length (compiled_bytes r) ≤ 64 → length old + (1 + (length (key_bytes r) + length (zero_bytes r.release))) ≤ 64
-capacity_for_form old r capacity = omega (arith, capacity, length-append (key_bytes r) (zero_bytes r.release))
 
 -- ---- stage, post and dev
 

@@ -373,9 +373,6 @@ gap_written : (last start : Bound Record) (low next : List ℕ) → low ≡ end_
     interval_bytes (segment_interval (flipped_bound last, flipped_bound start)) ≡ sized_bytes low ++ sized_bytes next
 gap_written last start low next l n = sym (λ i. sized_bytes ((l ∙ sym (turned_end_bytes last)) i) ++ sized_bytes ((n ∙ sym (turned_start_bytes start)) i))
 
-pub trailing_begun : (end : Bound Record) (s : Segments) (keys : List ℕ) → All IsSized s → Fits (length (end_bytes end)) → keys ≡ sized_bytes (end_bytes end) ++ set_bytes s → Trailing end s keys keys
-trailing_begun end s keys all fits e = record { last = end; more = s; done = []; sized = recursion_from_All IsSized s all; fits = fits; split = refl; left_is = e; whole = refl }
-
 -- the bytes after the low key of the first interval
 pub after_low : (left : List ℕ) (set : Segments) (f : FirstGap left set) → left ≡ sized_bytes (start_bytes f.first.0) ++ (sized_bytes (end_bytes f.first.1) ++ set_bytes f.more)
 after_low left set f = f.bytes_are ∙ append_assoc (sized_bytes (start_bytes f.first.0)) (sized_bytes (end_bytes f.first.1)) (set_bytes f.more)

@@ -1,11 +1,11 @@
 //! Compiled versions tested as they lie: each byte of them, without making a version.
-ghost use Rattle.std.specs.Prelude.{◌≡◌, ◌↔◌, ◌<◌, ◌≤◌, ◌++◌, ◌∷◌, ℕ, List, length, IfSome, IsSome, MatchOption, true};
+ghost use Rattle.std.specs.Prelude.{◌≡◌, ◌<◌, ◌≤◌, ◌++◌, ◌∷◌, ℕ, List, length, IfSome, IsSome, MatchOption, true};
 ghost use Rattle.std.specs.List.{All, flat_map};
 ghost use Rattle.pep440_compiled.specs.KeyParts.{ending_zeros, suffix_bytes};
 ghost use Rattle.pep440_compiled.specs.Version.{DenotesVersion};
 ghost use Rattle.pep440_keys.specs.SortKeys.{key_bytes, local_bytes, needed_bytes, number_bytes, segment_bytes};
 ghost use Rattle.pep440_rs.specs.Matching.{any_prerelease};
-ghost use Rattle.pep440_version.specs.Record.{Fits, LocalSegmentValue, Record, SegmentFits, Text};
+ghost use Rattle.pep440_version.specs.Record.{Fits, LocalSegmentValue, Record, SegmentFits};
 ghost use Rattle.pep440_version.specs.RoundTrip.{IsParsed, SegmentRoundTrips};
 ghost use Rattle.pep440_version.specs.Key.Trim.{trim};
 

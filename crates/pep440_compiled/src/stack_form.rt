@@ -9,7 +9,7 @@ ghost use Rattle.pep440_keys.specs.SortKeys.{local_bytes, number_bytes, segment_
 ghost use Rattle.pep440_version.specs.Grammar.{AreSegments, Derives, IsDev, IsEpoch, IsLocal, IsNumber, IsPost, IsPre, IsRelease, IsSegment, IsSeparator, IsSpelling, pre_spellings, starts};
 ghost use Rattle.pep440_version.specs.Key.Trim.{trim};
 ghost use Rattle.pep440_version.specs.Normal.{HasSuffix, spelling};
-ghost use Rattle.pep440_version.specs.Print.{dotted, epoch_text, labelled, local_text, pre_text, prerelease_kind_text, prerelease_text, print, print_segment};
+ghost use Rattle.pep440_version.specs.Print.{dotted, epoch_text, labelled, local_text, pre_text, prerelease_kind_text, print, print_segment};
 ghost use Rattle.pep440_version.specs.Reading.{skip_v};
 ghost use Rattle.pep440_version.specs.Record.{Fits, LocalSegmentValue, Record, SegmentFits, Text};
 ghost use Rattle.pep440_version.specs.RoundTrip.{SegmentRoundTrips, is_lower};

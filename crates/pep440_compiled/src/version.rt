@@ -1,5 +1,5 @@
 //! Compiled versions: made, read, compared.
-ghost use Rattle.std.specs.Prelude.{◌≡◌, ◌+◌, ◌++◌, ℕ, Ok, IfErr, IfOk, IsOk, MatchResult, OnOk, length, string_bytes};
+ghost use Rattle.std.specs.Prelude.{◌≡◌, ◌++◌, Ok, IfErr, IfOk, MatchResult, OnOk, string_bytes};
 ghost use Rattle.std.specs.Cmp.Lexicographic.{slice_cmp};
 ghost use Rattle.std.specs.Ordering.{nat_cmp};
 ghost use Rattle.pep440_compiled.specs.Version.{DenotesVersion, HasVersionFormat, compiled_bytes, version_bytes, zero_bytes};
@@ -18,7 +18,7 @@ use crate::decode::decode_version;
 use crate::error::{CompileError, CompiledError, NotCompiled};
 use crate::parsed::is_parsed;
 use crate::views::{VERSION, has_version_format, view_version, view_version_parts};
-use pep440_keys::{KeySink, push_sort_key};
+use pep440_keys::push_sort_key;
 use pep440_version::Version;
 use pep440_version::key::trim_trailing_zeros;
 use std::alloc::{AllocError, Global};
@@ -26,14 +26,12 @@ use std::cmp::Ordering;
 
 // A byte 1 for each zero that ends the release.
 #[inline(always)]
-pub(crate) fn push_zeros<K: KeySink>(bytes: &mut K, release: &[u64]) -> Result<(), AllocError>
-    ensures appended { OnOk result (K.written bytes.new ≡ K.written bytes.old ++ zero_bytes release.now) }
-    ensures fits { (more : ℕ) → K.has_capacity bytes.old (length (zero_bytes release.now) + more)
-        → IsOk result × K.has_capacity bytes.new more }
+fn push_zeros(bytes: &mut Vec<u8>, release: &[u64]) -> Result<(), AllocError>
+    ensures { OnOk result (bytes.new.items ≡ bytes.old.items ++ zero_bytes release.now) }
 {
     let kept = trim_trailing_zeros(release).len();
     for _ in kept..release.len() {
-        bytes.append(&[1])?;
+        bytes.push(1)?;
     }
     Ok(())
 }
