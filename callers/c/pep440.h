@@ -398,10 +398,9 @@ uint8_t pep440_release_range_bounds(const uint8_t *list, size_t length, uint8_t 
    pep440_allows and the calls on sets of formats 6 and 7 read them as they lie: of bytes that begin
    as a compiled form and are none they write any result, or return the status of an invalid one.
    The first four allocate nothing then, nor for a version that is a string in normal form whose
-   compiled form has at most 64 bytes, with at most four release numbers and no number above
-   2147483647, of which pep440_compare also takes two. All other calls reject such bytes. So give
-   bytes of unknown origin to pep440_normalize or pep440_normalize_list once. No call tests a set by
-   itself: make it anew of lists. */
+   compiled form has at most 64 bytes, of which pep440_compare also takes two. All other calls reject
+   such bytes. So give bytes of unknown origin to pep440_normalize or pep440_normalize_list once. No
+   call tests a set by itself: make it anew of lists. */
 
 /* How many bytes suffice, by the length of a string: for the normal form of a version, for its sort
    key, and for its compiled form. */

@@ -375,11 +375,11 @@ pub only_local : {text : List ℕ} (pre : Option Prerelease) (post dev : Option 
 only_local {text} (Some p) post dev local e begins = by p.kind e
   where
     by : (k : PrereleaseKind) → text ≡ (prerelease_kind_text k ++ decimal p.number) ++ after_pre post dev local → (Some p ≡ None) × (post ≡ None) × (dev ≡ None) × (text ≡ local_text local)
-    by Alpha e = elim begins [ | inl none ↦ cc (sym none ∙ e) | inr plus ↦ absurd (true≢false (sym plus ∙ ap (starts (λ b. b == 43)) e)) ]
-    by Beta e = elim begins [ | inl none ↦ cc (sym none ∙ e) | inr plus ↦ absurd (true≢false (sym plus ∙ ap (starts (λ b. b == 43)) e)) ]
-    by Rc e = elim begins [ | inl none ↦ cc (sym none ∙ e) | inr plus ↦ absurd (true≢false (sym plus ∙ ap (starts (λ b. b == 43)) e)) ]
-only_local None (Some n) dev local e begins = elim begins [ | inl none ↦ cc (sym none ∙ e) | inr plus ↦ absurd (true≢false (sym plus ∙ ap (starts (λ b. b == 43)) e)) ]
-only_local None None (Some n) local e begins = elim begins [ | inl none ↦ cc (sym none ∙ e) | inr plus ↦ absurd (true≢false (sym plus ∙ ap (starts (λ b. b == 43)) e)) ]
+    by Alpha e = elim begins [ inl none ↦ cc (sym none ∙ e) | inr plus ↦ absurd (true≢false (sym plus ∙ ap (starts (λ b. b == 43)) e)) ]
+    by Beta e = elim begins [ inl none ↦ cc (sym none ∙ e) | inr plus ↦ absurd (true≢false (sym plus ∙ ap (starts (λ b. b == 43)) e)) ]
+    by Rc e = elim begins [ inl none ↦ cc (sym none ∙ e) | inr plus ↦ absurd (true≢false (sym plus ∙ ap (starts (λ b. b == 43)) e)) ]
+only_local None (Some n) dev local e begins = elim begins [ inl none ↦ cc (sym none ∙ e) | inr plus ↦ absurd (true≢false (sym plus ∙ ap (starts (λ b. b == 43)) e)) ]
+only_local None None (Some n) local e begins = elim begins [ inl none ↦ cc (sym none ∙ e) | inr plus ↦ absurd (true≢false (sym plus ∙ ap (starts (λ b. b == 43)) e)) ]
 only_local None None None local e begins = (refl, refl, refl, e)
 
 -- ---- the normalized form of a short compiled form

@@ -44,13 +44,17 @@ NoNumeral text = (digits rest : List ℕ) (n : ℕ) → IsNumber digits n → st
 
 -- so a leading segment is a string
 pub string_segment : (text segment rest : List ℕ) → NoNumeral text → text ≡ segment ++ rest → 0 < length segment → list_all is_lower segment ≡ true → starts is_lower rest ≡ false → IsSegment segment (Text segment)
-string_segment text segment rest none split some lower ended = segment_reads (Text segment) tt (some, lower, elim (cases_Bool (is_numeral segment)) [
-  | inl e ↦
-      let all = both_first (list_all is_ascii_digit segment) _ e in
-      let fits = ltb-true _ _ (both_second (list_all is_ascii_digit segment) _ e) in
-      absurd (none segment rest (digits_value 10 segment) (some, all, refl, fits) ended split)
-  | inr e ↦ e
-])
+string_segment text segment rest none split some lower ended = segment_reads (Text segment) tt (
+  some,
+  lower,
+  elim (cases_Bool (is_numeral segment)) [
+    | inl e ↦
+        let all = both_first (list_all is_ascii_digit segment) _ e in
+        let fits = ltb-true _ _ (both_second (list_all is_ascii_digit segment) _ e) in
+        absurd (none segment rest (digits_value 10 segment) (some, all, refl, fits) ended split)
+    | inr e ↦ e
+  ],
+)
 
 -- a string is rejected, if its error is not 'out of memory'
 pub rejected : (bytes text : List ℕ) (o : Option Rejection) → text ≡ bytes → is_none o ≡ false → IfSome o (Rejects text) → (f : Rejection) × Rejects bytes f

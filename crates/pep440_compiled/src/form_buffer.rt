@@ -80,6 +80,19 @@ impl FormBuffer {
         if compile_parts(&mut self.stack, text) {
             return Ok(self.stack.as_slice());
         }
+        self.compile_other(alloc, text)
+    }
+
+    // As `compile`, of a string with a longer form or in another spelling. A call of its own, since few are.
+    #[inline(never)]
+    fn compile_other<'a>(
+        &'a mut self,
+        alloc: Global,
+        text: &[u8],
+    ) -> Result<&'a [u8], CompileStringError>
+        ensures found { IfOk result (λ form. (r : Record) × Derives text.now r × DenotesVersion form.now r) }
+        ensures rejected { IfErr result (IsCompileStringError text.now) }
+    {
         self.heap = parse_and_compile(alloc, text)?;
         Ok(self.heap.as_slice())
     }

@@ -195,8 +195,8 @@ fn sweep_normal_forms_take_none(rt: HostRuntime) -> Result<(), Fail> {
     assert!(rt; has_short_form(rt, "1.2.3", 13), "release");
     assert!(rt; has_short_form(rt, "1.2.3.4", 15), "four numbers");
     assert!(rt;
-        has_short_form(rt, "1!2147483647", 13),
-        "epoch and the greatest small number"
+        has_short_form(rt, "1!18446744073709551615", 17),
+        "epoch and the greatest number"
     );
     assert!(rt; has_short_form(rt, "1!2.259", 13), "epoch");
     assert!(rt; has_short_form(rt, "1.dev0", 9), "dev release");
@@ -208,6 +208,14 @@ fn sweep_normal_forms_take_none(rt: HostRuntime) -> Result<(), Fail> {
         "local part of two segments"
     );
     assert!(rt; has_short_form(rt, "1+10", 11), "local part of two digits");
+    assert!(rt;
+        has_short_form(rt, "1+0a", 13),
+        "local part of a digit and a letter"
+    );
+    assert!(rt;
+        has_short_form(rt, "1+18446744073709551616", 31),
+        "local part of digits that are no number"
+    );
     Ok(())
 }
 
