@@ -32,7 +32,8 @@ use Rattle.pep440_version.specs.declared.prerelease.PrereleaseKind.TheVariants.{
 use Rattle.pep440_compiled.proofs.Checking.{ones}
 use Rattle.pep440_compiled.proofs.Fronts.{none_needed, trim_pad}
 use Rattle.pep440_compiled.specs.KeyParts.{ending_zeros}
-use Rattle.pep440_compiled.specs.Version.{EndsRelease, HasShortForm, compiled_bytes, zero_bytes}
+use Rattle.pep440_compiled.specs.Strings.{EndsRelease}
+use Rattle.pep440_compiled.specs.Version.{HasShortForm, compiled_bytes, zero_bytes}
 
 -- ---- what follows a part
 

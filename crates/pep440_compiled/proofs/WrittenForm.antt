@@ -25,6 +25,7 @@ use Rattle.pep440_compiled.proofs.Fronts.{parsed}
 use Rattle.pep440_compiled.proofs.PrintedParts.{untrimmed}
 use Rattle.pep440_compiled.proofs.Fronts as release
 use Rattle.pep440_compiled.specs.KeyParts.{ending_zeros}
+use Rattle.pep440_compiled.specs.Strings.{HasNoNumeral, IsPrinted}
 use Rattle.pep440_compiled.specs.Version.{DenotesVersion, compiled_bytes, zero_bytes}
 use Rattle.pep440_version.proofs.Reading.Prefixes.{both_first, both_second, same_front}
 use Rattle.pep440_version.specs.Print.{dotted, local_text, print_segment}
@@ -38,12 +39,8 @@ number_segment digits n is = (is.0, all_weaker is_ascii_digit is_ascii_alphanume
     digit_alphanumeric : (b : ℕ) → is_ascii_digit b ≡ true → is_ascii_alphanumeric b ≡ true
     digit_alphanumeric b is = rw is refl
 
--- no number is the whole leading segment
-abbrev pub NoNumeral : List ℕ → Type 0
-NoNumeral text = (digits rest : List ℕ) (n : ℕ) → IsNumber digits n → starts is_lower rest ≡ false → text ≡ digits ++ rest → ⊥
-
--- so a leading segment is a string
-pub string_segment : (text segment rest : List ℕ) → NoNumeral text → text ≡ segment ++ rest → 0 < length segment → list_all is_lower segment ≡ true → starts is_lower rest ≡ false → IsSegment segment (Text segment)
+-- a leading segment that is no number is a string
+pub string_segment : (text segment rest : List ℕ) → HasNoNumeral text → text ≡ segment ++ rest → 0 < length segment → list_all is_lower segment ≡ true → starts is_lower rest ≡ false → IsSegment segment (Text segment)
 string_segment text segment rest none split some lower ended = segment_reads (Text segment) tt (
   some,
   lower,
@@ -112,22 +109,22 @@ digits_lower digits all = all_weaker is_ascii_digit is_lower (λ b is. rw is ref
 
 -- where a number is the leading segment, the printed segment is that number
 pub numeral_is : (text rest : List ℕ) (n : ℕ) → ((digits : List ℕ) × IsNumber digits n × (text ≡ digits ++ rest)) → starts is_lower rest ≡ false
-    → (s : LocalSegmentValue) (later : List ℕ) → SegmentFits s → SegmentRoundTrips s → starts is_lower later ≡ false → text ≡ print_segment s ++ later → (s ≡ Number n) × (rest ≡ later)
-numeral_is text rest n (digits, number, split) ended (Number m) later fit again stop e =
-    let other = decimal_number m fit in
-    let same = same_front is_lower (decimal m) later digits rest (digits_lower (decimal m) other.1) stop (digits_lower digits number.1) ended (sym e ∙ split) in
+    → (s : LocalSegmentValue) (later : List ℕ) → IsPrinted text s later → (s ≡ Number n) × (rest ≡ later)
+numeral_is text rest n (digits, number, split) ended (Number m) later printed =
+    let other = decimal_number m printed.valid in
+    let same = same_front is_lower (decimal m) later digits rest (digits_lower (decimal m) other.1) printed.ended (digits_lower digits number.1) ended (sym printed.is ∙ split) in
     (ap Number (sym other.2 ∙ ap (digits_value 10) same.0 ∙ number.2), sym same.1)
-numeral_is text rest n (digits, number, split) ended (Text t) later fit again stop e =
-    let same = same_front is_lower t later digits rest again.1 stop (digits_lower digits number.1) ended (sym e ∙ split) in
+numeral_is text rest n (digits, number, split) ended (Text t) later printed =
+    let same = same_front is_lower t later digits rest printed.round_trips.1 printed.ended (digits_lower digits number.1) ended (sym printed.is ∙ split) in
     let numeral : is_numeral digits ≡ true = rw (number.1, number.2, lt-ltb n (2 ^ 64) number.3) refl in
-    absurd (true≢false (sym numeral ∙ sym (ap is_numeral same.0) ∙ again.2))
+    absurd (true≢false (sym numeral ∙ sym (ap is_numeral same.0) ∙ printed.round_trips.2))
 
 -- and where none is, it is the string
-pub string_is : (text segment rest : List ℕ) → NoNumeral text → text ≡ segment ++ rest → list_all is_lower segment ≡ true → starts is_lower rest ≡ false
-    → (s : LocalSegmentValue) (later : List ℕ) → SegmentFits s → SegmentRoundTrips s → starts is_lower later ≡ false → text ≡ print_segment s ++ later → (s ≡ Text segment) × (rest ≡ later)
-string_is text segment rest none split lower ended (Number m) later fit again stop e = absurd (none (decimal m) later m (decimal_number m fit) stop e)
-string_is text segment rest none split lower ended (Text t) later fit again stop e =
-    let same = same_front is_lower t later segment rest again.1 stop lower ended (sym e ∙ split) in
+pub string_is : (text segment rest : List ℕ) → HasNoNumeral text → text ≡ segment ++ rest → list_all is_lower segment ≡ true → starts is_lower rest ≡ false
+    → (s : LocalSegmentValue) (later : List ℕ) → IsPrinted text s later → (s ≡ Text segment) × (rest ≡ later)
+string_is text segment rest none split lower ended (Number m) later printed = absurd (none (decimal m) later m (decimal_number m printed.valid) printed.ended printed.is)
+string_is text segment rest none split lower ended (Text t) later printed =
+    let same = same_front is_lower t later segment rest printed.round_trips.1 printed.ended lower ended (sym printed.is ∙ split) in
     (ap Text same.0, sym same.1)
 
 some_print : (s : LocalSegmentValue) → SegmentFits s → SegmentRoundTrips s → 0 < length (print_segment s)
@@ -178,10 +175,7 @@ pub record AreAfter (after form whole : List ℕ) : Type 0 where
 pub record FirstLeft (rest form whole : List ℕ) : Type 0 where
   pub first : LocalSegmentValue
   pub others : List LocalSegmentValue
-  pub fit : SegmentFits first
-  pub again : SegmentRoundTrips first
-  pub ended : starts is_lower (dotted_more others) ≡ false
-  pub is : rest ≡ print_segment first ++ dotted_more others
+  pub printed : IsPrinted rest first (dotted_more others)
   pub fits : length form + length (segment_bytes first) ≤ 64
   pub after : (later new : List ℕ) → later ≡ dotted_more others → new ≡ form ++ segment_bytes first → AreAfter later new whole
 
@@ -199,10 +193,7 @@ first_left {rest} {form} {whole} h small = by h.left h.some h.fit h.again h.is h
         record {
           first = s;
           others = others;
-          fit = fit 0 s (omega arith);
-          again = again 0 s (omega arith);
-          ended = no_lower others;
-          is = is;
+          printed = record { valid = fit 0 s (omega arith); round_trips = again 0 s (omega arith); ended = no_lower others; is = is };
           fits = omega (arith, small, ap length bytes, length-append form (segment_bytes s ++ more), length-append (segment_bytes s) more);
           after = λ later new rest_is new_is. record {
             others = others;

@@ -1,8 +1,6 @@
 -- The bytes of a compiled version: its sort key, and the one thing that the key leaves out, how many zeros end the release.
-use Rattle.std.specs.Prelude.{◌≡◌, ℕ, ◌≤◌, List, ◌∷◌, ◌++◌, Some, false, drop, length, map, slice_get}
-use Rattle.std.specs.Char.{is_ascii_digit}
+use Rattle.std.specs.Prelude.{◌≡◌, ℕ, ◌≤◌, List, ◌∷◌, ◌++◌, Some, drop, length, map, slice_get}
 use Rattle.pep440_keys.specs.SortKeys.{key_bytes}
-use Rattle.pep440_version.specs.Grammar.{starts}
 use Rattle.pep440_version.specs.Record.{Record}
 use Rattle.pep440_version.specs.RoundTrip.{IsParsed}
 use Rattle.pep440_version.specs.Key.Trim.{trim}
@@ -32,7 +30,3 @@ pub record DenotesVersion (bytes : List ℕ) (r : Record) : Type 0 where
 pub record HasShortForm (r : Record) : Type 0 where
   pub parsed : IsParsed r
   pub bytes : length (compiled_bytes r) ≤ 64
-
--- no release goes on here: neither with a digit nor with a dot and a digit
-abbrev pub EndsRelease : List ℕ → Type 0
-EndsRelease text = (starts is_ascii_digit text ≡ false) × ((rest : List ℕ) → text ≡ 46 ∷ rest → starts is_ascii_digit rest ≡ false)

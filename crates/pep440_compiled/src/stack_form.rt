@@ -1,10 +1,11 @@
 //! The compiled form of a string, written part by part before a version is made of them.
-ghost use Rattle.std.specs.Prelude.{◌≡◌, ◌+◌, ◌++◌, ◌-◌, ◌<◌, ◌≤◌, ◌==◌, ◌∷◌, ◌⊎◌, ℕ, List, [], codes, length, replicate, Option, Some, None, Ok, IfOk, IfSome, IsOk, MatchOption, MatchResult, OnOk, false, true};
+ghost use Rattle.std.specs.Prelude.{◌≡◌, ◌+◌, ◌++◌, ◌-◌, ◌<◌, ◌≤◌, ◌==◌, ◌∷◌, ◌⊎◌, ℕ, List, [], codes, length, replicate, Option, Some, None, Ok, IfOk, IfSome, IsOk, MatchOption, MatchResult, OnOk, false, nat_eq, true};
 ghost use Rattle.std.specs.Char.{is_ascii_digit};
 ghost use Rattle.std.specs.Fmt.{decimal};
-ghost use Rattle.std.specs.List.{All, flat_map, list_all, prefix_len};
+ghost use Rattle.std.specs.List.{All, flat_map, list_all, prefix_len, starts_with};
 ghost use Rattle.pep440_compiled.specs.KeyParts.{ending_zeros};
-ghost use Rattle.pep440_compiled.specs.Version.{DenotesVersion, EndsRelease, HasShortForm};
+ghost use Rattle.pep440_compiled.specs.Strings.{EndsRelease, HasNoNumeral, HasSegment, IsPrinted};
+ghost use Rattle.pep440_compiled.specs.Version.{DenotesVersion, HasShortForm};
 ghost use Rattle.pep440_keys.specs.SortKeys.{local_bytes, number_bytes, segment_bytes};
 ghost use Rattle.pep440_version.specs.Grammar.{AreSegments, Derives, IsDev, IsEpoch, IsLocal, IsNumber, IsPost, IsPre, IsRelease, IsSegment, IsSeparator, IsSpelling, pre_spellings, starts};
 ghost use Rattle.pep440_version.specs.Key.Trim.{trim};
@@ -17,7 +18,6 @@ ghost use Rattle.pep440_version.specs.declared.prerelease.Prerelease.{Prerelease
 ghost use Rattle.pep440_version.specs.declared.prerelease.PrereleaseKind.{PrereleaseKind};
 
 use crate::decode::SuffixParts;
-use crate::matching::strip_base;
 use crate::views::VERSION;
 use arrayvec::ArrayVec;
 use pep440_keys::{KeySink, push_number, push_suffix_of};
@@ -68,6 +68,17 @@ fn split_number(text: &[u8]) -> Option<(u64, &[u8])>
     Some((number, &[]))
 }
 
+// Whether a digit leads.
+#[inline(always)]
+fn begins_number(text: &[u8]) -> bool
+    ensures { result ≡ starts is_ascii_digit text.now }
+{
+    match text.first() {
+        Some(byte) => byte.is_ascii_digit(),
+        None => false,
+    }
+}
+
 // Whether the rest of a segment follows its digits.
 #[inline(always)]
 fn begins_lower(text: &[u8]) -> bool
@@ -107,28 +118,56 @@ fn push_text(form: &mut ArrayVec<u8, 64>, text: &[u8]) -> Result<(), AllocError>
     Ok(())
 }
 
-// Appends the bytes of the leading segment of lower-case letters and digits, and returns the rest; `None` if there is none.
+// Appends the bytes of the leading segment, which is a string of lower-case letters and digits, and returns the rest; `None` if there is none.
 #[inline(always)]
-fn push_segment<'a>(
+fn push_string<'a>(
     form: &mut ArrayVec<u8, 64>,
     text: &'a [u8],
 ) -> Result<Option<&'a [u8]>, AllocError>
-    ensures appended { IfOk result (λ o. IfSome o (λ rest. (segment : List ℕ) × (s : LocalSegmentValue) × IsSegment segment s
-        × (text.now ≡ segment ++ rest.now) × (form.new.items ≡ form.old.items ++ segment_bytes s))) }
-    ensures fits { (s : LocalSegmentValue) (rest : List ℕ) → SegmentFits s → SegmentRoundTrips s → starts is_lower rest ≡ false
-        → text.now ≡ print_segment s ++ rest → length form.old.items + length (segment_bytes s) ≤ 64
+    requires { HasNoNumeral text.now }
+    ensures appended { IfOk result (λ o. IfSome o (λ rest. HasSegment text.now rest.now form.old.items form.new.items)) }
+    ensures fits { (s : LocalSegmentValue) (rest : List ℕ) → IsPrinted text.now s rest → length form.old.items + length (segment_bytes s) ≤ 64
         → MatchResult result (λ o. MatchOption o ⊥ (λ r. (r.now ≡ rest) × (form.new.items ≡ form.old.items ++ segment_bytes s))) (λ _. ⊥) }
 {
-    if let Some((number, rest)) = split_numeral(text) {
-        push_number(form, 2, number)?;
-        return Ok(Some(rest));
-    }
     let (segment, rest) = split_lower(text);
     if segment.is_empty() {
         return Ok(None);
     }
     push_text(form, segment)?;
     Ok(Some(rest))
+}
+
+// As `push_segment`, of a segment that begins with a digit. A call of its own, so that others pay nothing for numbers.
+#[inline(never)]
+fn push_numeral<'a>(
+    form: &mut ArrayVec<u8, 64>,
+    text: &'a [u8],
+) -> Result<Option<&'a [u8]>, AllocError>
+    ensures appended { IfOk result (λ o. IfSome o (λ rest. HasSegment text.now rest.now form.old.items form.new.items)) }
+    ensures fits { (s : LocalSegmentValue) (rest : List ℕ) → IsPrinted text.now s rest → length form.old.items + length (segment_bytes s) ≤ 64
+        → MatchResult result (λ o. MatchOption o ⊥ (λ r. (r.now ≡ rest) × (form.new.items ≡ form.old.items ++ segment_bytes s))) (λ _. ⊥) }
+{
+    let Some((number, rest)) = split_numeral(text) else {
+        return push_string(form, text);
+    };
+    push_number(form, 2, number)?;
+    Ok(Some(rest))
+}
+
+// Appends the bytes of the leading segment of lower-case letters and digits, and returns the rest; `None` if there is none.
+#[inline(always)]
+fn push_segment<'a>(
+    form: &mut ArrayVec<u8, 64>,
+    text: &'a [u8],
+) -> Result<Option<&'a [u8]>, AllocError>
+    ensures appended { IfOk result (λ o. IfSome o (λ rest. HasSegment text.now rest.now form.old.items form.new.items)) }
+    ensures fits { (s : LocalSegmentValue) (rest : List ℕ) → IsPrinted text.now s rest → length form.old.items + length (segment_bytes s) ≤ 64
+        → MatchResult result (λ o. MatchOption o ⊥ (λ r. (r.now ≡ rest) × (form.new.items ≡ form.old.items ++ segment_bytes s))) (λ _. ⊥) }
+{
+    if begins_number(text) {
+        return push_numeral(form, text);
+    }
+    push_string(form, text)
 }
 
 // Appends the bytes of segments with dots between them; `false` of other strings.
@@ -302,25 +341,40 @@ fn skip_separator(text: &[u8]) -> &[u8]
     }
 }
 
+// What follows this word, if the string begins with it. Each byte by itself, which takes fewer instructions of a word that the compiler knows.
+#[inline(always)]
+fn strip_word<'a>(text: &'a [u8], word: &[u8]) -> Option<&'a [u8]>
+    ensures { MatchOption result (starts_with nat_eq text.now word.now ≡ false) (λ rest. text.now ≡ word.now ++ rest.now) }
+{
+    let (start, rest) = text.split_at_checked(word.len())?;
+    for i in 0..word.len() {
+        if start[i] != word[i] {
+            return None;
+        }
+    }
+    Some(rest)
+}
+
 // The kind of pre-release that the leading word stands for, in lower case, and the rest.
 fn split_kind(text: &[u8]) -> Option<(PrereleaseKind, &[u8])>
     ensures kind { IfSome result (λ x. (word : List ℕ) × IsSpelling pre_spellings word x.0 × (text.now ≡ word ++ x.1.now)) }
     ensures printed { (kind : PrereleaseKind) (digits : List ℕ) → starts is_ascii_digit digits ≡ true
         → text.now ≡ prerelease_kind_text kind ++ digits → MatchOption result ⊥ (λ x. (x.0 ≡ kind) × (x.1.now ≡ digits)) }
 {
-    if let Some(rest) = strip_base(text, b"alpha") {
+    // first, since most are candidates
+    if let Some(rest) = strip_word(text, b"rc") {
+        return Some((PrereleaseKind::Rc, rest));
+    }
+    if let Some(rest) = strip_word(text, b"alpha") {
         return Some((PrereleaseKind::Alpha, rest));
     }
-    if let Some(rest) = strip_base(text, b"beta") {
+    if let Some(rest) = strip_word(text, b"beta") {
         return Some((PrereleaseKind::Beta, rest));
     }
-    if let Some(rest) = strip_base(text, b"rc") {
+    if let Some(rest) = strip_word(text, b"preview") {
         return Some((PrereleaseKind::Rc, rest));
     }
-    if let Some(rest) = strip_base(text, b"preview") {
-        return Some((PrereleaseKind::Rc, rest));
-    }
-    if let Some(rest) = strip_base(text, b"pre") {
+    if let Some(rest) = strip_word(text, b"pre") {
         return Some((PrereleaseKind::Rc, rest));
     }
     match text {
@@ -354,7 +408,7 @@ fn split_number_after<'a>(word: &[u8], text: &'a [u8]) -> Option<(Option<u64>, &
         → ((after : List ℕ) → rest ≡ word.now ++ after → ⊥) → text.now ≡ labelled word.now number ++ rest
         → MatchOption result ⊥ (λ x. (x.0 ≡ number) × (x.1.now ≡ rest)) }
 {
-    let Some(digits) = strip_base(text, word) else {
+    let Some(digits) = strip_word(text, word) else {
         return Some((None, text));
     };
     let (number, rest) = split_number(digits)?;

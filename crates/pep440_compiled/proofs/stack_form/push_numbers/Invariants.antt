@@ -4,7 +4,7 @@ use Rattle.pep440_compiled.proofs.PrintedParts.{GoesOn, dots}
 use Rattle.pep440_compiled.proofs.WrittenForm.{AreNumbers}
 use Rattle.pep440_compiled.proofs.stack_form.push_numbers.Given as goal
 use Rattle.pep440_compiled.specs.KeyParts.{ending_zeros}
-use Rattle.pep440_compiled.specs.Version.{EndsRelease}
+use Rattle.pep440_compiled.specs.Strings.{EndsRelease}
 use Rattle.pep440_keys.specs.SortKeys.{number_bytes}
 use Rattle.pep440_version.specs.Grammar.{IsNumber}
 use Rattle.pep440_version.specs.Key.Trim.{trim}

@@ -1,48 +1,6 @@
-use Rattle.std.proofs.Common.{◌∙◌, ◌+◌, ◌++◌, ◌≤◌, ap, arith, eqb-true, length, subst, sym}
-use Rattle.std.proofs.lemmas.Bool.{false≢true}
-use Rattle.pep440_compiled.proofs.WrittenForm.{number_segment, numeral_is, some_bytes, string_is, string_segment}
+use Rattle.std.proofs.Common.{◌∙◌, sym}
+use Rattle.pep440_compiled.proofs.PrintedParts.{no_number}
 use Rattle.pep440_compiled.proofs.stack_form.push_segment.Goals as goal
-use Rattle.pep440_keys.specs.SortKeys.{segment_bytes}
-use Rattle.pep440_version.specs.Record.{Number, Text}
-use Rattle.pep440_version.specs.RoundTrip.{SegmentRoundTrips}
 
-pub returns-in-Some-clause-appended : goal.returns-in-Some-clause-appended
-returns-in-Some-clause-appended c =
-    let is = c.in-Some.ensures.number in
-    (is.0, Number c.in-Some.number, number_segment is.0 c.in-Some.number is.1, is.2, c.in_ok-push_number.ensures.appended)
-
-pub returns-in_err-push_number-clause-fits : goal.returns-in_err-push_number-clause-fits
-returns-in_err-push_number-clause-fits c = λ s rest fit again stop e fits.
-    let same = numeral_is c.args.text.now c.in-Some.rest.now c.in-Some.number c.in-Some.ensures.number c.in-Some.ensures.ended s rest fit again stop e in
-    let capacity = subst (λ v. length c.args.form.now.items + length (segment_bytes v) ≤ 64) same.0 fits in
-    absurd (false≢true (c.in_err-push_number.ensures.fits 0 (omega (arith, capacity))).0)
-
-pub returns-in-Some-clause-fits : goal.returns-in-Some-clause-fits
-returns-in-Some-clause-fits c = λ s rest fit again stop e fits.
-    let same = numeral_is c.args.text.now c.in-Some.rest.now c.in-Some.number c.in-Some.ensures.number c.in-Some.ensures.ended s rest fit again stop e in
-    (same.1, c.in_ok-push_number.ensures.appended ∙ ap (λ v. c.args.form.now.items ++ segment_bytes v) (sym same.0))
-
-pub returns-clause-appended : goal.returns-clause-appended
-returns-clause-appended c =
-    let split = c.split_lower.ensures in
-    let segment = c.split_lower.result.0.now in
-    (segment, Text segment, string_segment c.args.text.now segment c.split_lower.result.1.now c.in_default.ensures.found split.joined (some_bytes segment (sym c.is_empty.ensures ∙ c.if-is_empty.false)) split.lower split.ended, split.joined, c.in_ok-push_text.ensures.appended)
-
-pub returns-then-is_empty-clause-fits : goal.returns-then-is_empty-clause-fits
-returns-then-is_empty-clause-fits c = λ s rest fit again stop e fits.
-    let split = c.split_lower.ensures in
-    let same = string_is c.args.text.now c.split_lower.result.0.now c.split_lower.result.1.now c.in_default.ensures.found split.joined split.lower split.ended s rest fit again stop e in
-    let some = (subst SegmentRoundTrips same.0 again).0 in
-    absurd (omega (arith, some, eqb-true _ 0 (sym c.is_empty.ensures ∙ c.if-is_empty.true)))
-
-pub returns-in_err-push_text-clause-fits : goal.returns-in_err-push_text-clause-fits
-returns-in_err-push_text-clause-fits c = λ s rest fit again stop e fits.
-    let split = c.split_lower.ensures in
-    let same = string_is c.args.text.now c.split_lower.result.0.now c.split_lower.result.1.now c.in_default.ensures.found split.joined split.lower split.ended s rest fit again stop e in
-    absurd (false≢true (c.in_err-push_text.ensures.fits (subst (λ v. length c.args.form.now.items + length (segment_bytes v) ≤ 64) same.0 fits)))
-
-pub returns-clause-fits : goal.returns-clause-fits
-returns-clause-fits c = λ s rest fit again stop e fits.
-    let split = c.split_lower.ensures in
-    let same = string_is c.args.text.now c.split_lower.result.0.now c.split_lower.result.1.now c.in_default.ensures.found split.joined split.lower split.ended s rest fit again stop e in
-    (same.1, c.in_ok-push_text.ensures.appended ∙ ap (λ v. c.args.form.now.items ++ segment_bytes v) (sym same.0))
+pub push_string-requires : goal.push_string-requires
+push_string-requires c = λ digits rest n is ended e. no_number c.args.text.now (sym c.begins_number.ensures ∙ c.if-begins_number.false) digits rest n is e

@@ -9,14 +9,14 @@ returns-in_err-after-clause-fits c = λ segments some fit again is fits.
     let small = whole_fits c.args.form.now.items segments fits in
     let left = c.loop.invariant.1 _ small (all_left c.args.text.now c.args.form.now.items segments some fit again is) in
     let first = first_left left.0 small in
-    absurd (c.in_err-after.ensures.fits first.first _ first.fit first.again first.ended first.is first.fits)
+    absurd (c.in_err-after.ensures.fits first.first _ first.printed first.fits)
 
 pub returns-in_default-clause-fits : goal.returns-in_default-clause-fits
 returns-in_default-clause-fits c = λ segments some fit again is fits.
     let small = whole_fits c.args.form.now.items segments fits in
     let left = c.loop.invariant.1 _ small (all_left c.args.text.now c.args.form.now.items segments some fit again is) in
     let first = first_left left.0 small in
-    absurd (rw c.in_default.is at (c.in_ok-after.ensures.fits first.first _ first.fit first.again first.ended first.is first.fits))
+    absurd (rw c.in_default.is at (c.in_ok-after.ensures.fits first.first _ first.printed first.fits))
 
 pub returns-in-empty-clause-appended : goal.returns-in-empty-clause-appended
 returns-in-empty-clause-appended c = λ _.
@@ -30,7 +30,7 @@ returns-in-empty-clause-fits c = λ segments some fit again is fits.
     let small = whole_fits c.args.form.now.items segments fits in
     let left = c.loop.invariant.1 _ small (all_left c.args.text.now c.args.form.now.items segments some fit again is) in
     let first = first_left left.0 small in
-    let pushed = rw c.in-Some.is at (c.in_ok-after.ensures.fits first.first _ first.fit first.again first.ended first.is first.fits) in
+    let pushed = rw c.in-Some.is at (c.in_ok-after.ensures.fits first.first _ first.printed first.fits) in
     (refl, last_written (first.after _ _ pushed.0 pushed.1) (nil_from_length c.in-Some.after.now (omega (arith, c.in-empty.len_below))))
 
 pub returns-in_default-after-clause-fits : goal.returns-in_default-after-clause-fits
@@ -38,7 +38,7 @@ returns-in_default-after-clause-fits c = λ segments some fit again is fits.
     let small = whole_fits c.args.form.now.items segments fits in
     let left = c.loop.invariant.1 _ small (all_left c.args.text.now c.args.form.now.items segments some fit again is) in
     let first = first_left left.0 small in
-    let pushed = rw c.in-Some.is at (c.in_ok-after.ensures.fits first.first _ first.fit first.again first.ended first.is first.fits) in
+    let pushed = rw c.in-Some.is at (c.in_ok-after.ensures.fits first.first _ first.printed first.fits) in
     let dot = dot_after (first.after _ _ pushed.0 pushed.1) (omega (arith, c.in_default-after.len_at_least)) in
     let other : get_or c.in-Some.after.now 0 0 ≡ 46 → ⊥ = search rules in
     absurd (other dot)
@@ -54,7 +54,7 @@ loop-preserved c =
       λ whole small start.
           let left = c.loop.invariant.1 whole small start in
           let first = first_left left.0 small in
-          let pushed = rw c.in-Some.is at (c.in_ok-after.ensures.fits first.first _ first.fit first.again first.ended first.is first.fits) in
+          let pushed = rw c.in-Some.is at (c.in_ok-after.ensures.fits first.first _ first.printed first.fits) in
           (left_after (first.after _ _ pushed.0 pushed.1) dot, omega (arith, left.1, one.2.0, ap length one.3, length-append one.0 rest, ap length dot)),
     )
 
