@@ -15,7 +15,7 @@ use Rattle.std.proofs.lemmas.Bool.Decides.{nat_tests}
 use Rattle.std.proofs.lemmas.Str.{IsUtf8-from_ascii}
 use Rattle.std.proofs.lemmas.Str.Ascii.{IsAscii-from_all}
 use Rattle.std.specs.Str.{IsUtf8}
-use Rattle.pep440_compiled.specs.Version.{compiled_bytes, zero_bytes}
+use Rattle.pep440_compiled.specs.Version.{zero_bytes}
 use Rattle.pep440_version.proofs.Reading.Prefixes.{both_first, both_second, same_front}
 use Rattle.pep440_version.specs.Grammar.{starts}
 use Rattle.pep440_version.specs.Key.{dev_rank, key, post_rank, stage_rank}

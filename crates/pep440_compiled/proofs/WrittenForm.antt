@@ -1,8 +1,8 @@
 -- A compiled form that is written part by part.
-use Rattle.std.proofs.Common.{◌≡◌, ◌∙◌, ◌<◌, ◌-◌, ℕ, zero, List, [], ◌∷◌, ◌++◌, Option, None, Some, true, false, ap, inr, refl, sym, subst, append_assoc, arith, true≢false, ◌≤◌, ◌+◌, suc, codes, drop, get_or, length, take, ◌^◌, IfSome, is_none, ◌||◌, ◌==◌, inl, nat_lt}
+use Rattle.std.proofs.Common.{◌≡◌, ◌∙◌, ◌<◌, ◌-◌, ℕ, List, [], ◌∷◌, ◌++◌, Option, None, Some, true, false, ap, inr, refl, sym, subst, append_assoc, arith, true≢false, ◌≤◌, ◌+◌, suc, codes, drop, get_or, length, take, ◌^◌, IfSome, is_none, ◌||◌, ◌==◌, inl}
 use Rattle.std.proofs.lemmas.Bool.{cases_Bool, lt-ltb, ltb-true}
 use Rattle.std.proofs.lemmas.Grind.{flat_map-append}
-use Rattle.std.proofs.lemmas.List.{append-nil, length-append, length-replicate, nil_from_length, take-append-drop}
+use Rattle.std.proofs.lemmas.List.{append-nil, length-append, length-replicate, take-append-drop}
 use Rattle.std.specs.Char.{is_ascii_alphanumeric, is_ascii_digit, is_ascii_lowercase}
 use Rattle.std.specs.Fmt.{decimal}
 use Rattle.std.specs.List.{flat_map, list_all, All}
@@ -127,10 +127,6 @@ string_is text segment rest none split lower ended (Text t) later printed =
     let same = same_front is_lower t later segment rest printed.round_trips.1 printed.ended lower ended (sym printed.is ∙ split) in
     (ap Text same.0, sym same.1)
 
-some_print : (s : LocalSegmentValue) → SegmentFits s → SegmentRoundTrips s → 0 < length (print_segment s)
-some_print (Text t) fit again = again.0
-some_print (Number n) fit again = (decimal_number n fit).0
-
 -- ---- the segments after those that are written
 
 -- the rest is of segments with which the form becomes the whole
@@ -152,14 +148,6 @@ whole_fits old segments fits = omega (arith, fits, length-append old (flat_map s
 -- segments, each after a dot
 abbrev pub dotted_more : List LocalSegmentValue → List ℕ
 dotted_more others = flat_map (λ y. codes "." ++ print_segment y) others
-
-some_of : (left : List LocalSegmentValue) → 0 < length left → All SegmentFits left → All SegmentRoundTrips left → 0 < length (dotted print_segment left)
-some_of [] some fit again = absurd (omega (arith, some))
-some_of (s ∷ others) some fit again =
-    omega (arith, some_print s (fit 0 s (omega arith)) (again 0 s (omega arith)), length-append (print_segment s) (dotted_more others))
-
-pub some_left : {rest form whole : List ℕ} → AreLeft rest form whole → 0 < length rest
-some_left h = omega (arith, ap length h.is, some_of h.left h.some h.fit h.again)
 
 -- ---- one of them is written
 

@@ -7,7 +7,7 @@ ghost use Rattle.pep440_compiled.specs.KeyParts.{ending_zeros};
 ghost use Rattle.pep440_compiled.specs.Strings.{EndsRelease, HasNoNumeral, HasSegment, IsPrinted};
 ghost use Rattle.pep440_compiled.specs.Version.{DenotesVersion, HasShortForm};
 ghost use Rattle.pep440_keys.specs.SortKeys.{local_bytes, number_bytes, segment_bytes};
-ghost use Rattle.pep440_version.specs.Grammar.{AreSegments, Derives, IsDev, IsEpoch, IsLocal, IsNumber, IsPost, IsPre, IsRelease, IsSegment, IsSeparator, IsSpelling, pre_spellings, starts};
+ghost use Rattle.pep440_version.specs.Grammar.{AreSegments, Derives, IsDev, IsEpoch, IsLocal, IsNumber, IsPost, IsPre, IsRelease, IsSeparator, IsSpelling, pre_spellings, starts};
 ghost use Rattle.pep440_version.specs.Key.Trim.{trim};
 ghost use Rattle.pep440_version.specs.Normal.{HasSuffix, spelling};
 ghost use Rattle.pep440_version.specs.Print.{dotted, epoch_text, labelled, local_text, pre_text, prerelease_kind_text, print, print_segment};
@@ -182,10 +182,7 @@ fn push_segments(form: &mut ArrayVec<u8, 64>, text: &[u8]) -> Result<bool, Alloc
         → (result ≡ Ok true) × (form.new.items ≡ form.old.items ++ flat_map segment_bytes segments) }
 {
     let mut rest = text;
-    for _ in 0..text.len() {
-        let Some(after) = push_segment(form, rest)? else {
-            return Ok(false);
-        };
+    while let Some(after) = push_segment(form, rest)? {
         match after {
             [] => return Ok(true),
             [b'.', later @ ..] => rest = later,

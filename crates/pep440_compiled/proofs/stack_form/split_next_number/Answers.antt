@@ -1,4 +1,4 @@
-use Rattle.std.proofs.Common.{◌≡◌, ◌∙◌, ◌∷◌, ◌-◌, ap, arith, drop, length, rules, sym, take, get_or}
+use Rattle.std.proofs.Common.{◌≡◌, ◌∙◌, ◌∷◌, ◌-◌, ap, arith, drop, length, rules, sym, take}
 use Rattle.pep440_compiled.proofs.stack_form.split_next_number.Goals as goal
 use Rattle.pep440_version.proofs.Reading.NormalParts.{by_first}
 
