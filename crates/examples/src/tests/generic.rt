@@ -59,7 +59,12 @@ fn orders(rt: HostRuntime) -> Result<(), Fail> {
         kind: PrereleaseKind::Beta,
         number: 0,
     };
+    let candidate = Prerelease {
+        kind: PrereleaseKind::Rc,
+        number: 0,
+    };
     assert!(rt; *greater(&alpha, &beta) == beta);
+    assert!(rt; *greater(&beta, &candidate) == candidate);
     Ok(())
 }
 
