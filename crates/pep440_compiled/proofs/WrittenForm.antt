@@ -1,5 +1,5 @@
 -- A compiled form that is written part by part.
-use Rattle.std.proofs.Common.{◌≡◌, ◌∙◌, ◌<◌, ◌-◌, ℕ, List, [], ◌∷◌, ◌++◌, Option, None, Some, true, false, ap, inr, refl, sym, subst, append_assoc, arith, true≢false, ◌≤◌, ◌+◌, suc, codes, drop, get_or, length, take, ◌^◌, IfSome, is_none, ◌||◌, ◌==◌, inl}
+use Rattle.std.proofs.Common.{◌≡◌, ◌∙◌, ◌<◌, ℕ, List, [], ◌∷◌, ◌++◌, Option, None, Some, true, false, ap, inr, refl, sym, subst, append_assoc, arith, true≢false, ◌≤◌, ◌+◌, suc, codes, drop, get_or, length, take, ◌^◌, IfSome, is_none, ◌||◌, ◌==◌, inl}
 use Rattle.std.proofs.lemmas.Bool.{cases_Bool, lt-ltb, ltb-true}
 use Rattle.std.proofs.lemmas.Grind.{flat_map-append}
 use Rattle.std.proofs.lemmas.List.{append-nil, length-append, length-replicate, take-append-drop}

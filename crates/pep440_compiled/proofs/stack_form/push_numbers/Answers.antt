@@ -1,4 +1,4 @@
-use Rattle.std.proofs.Common.{[], ◌++◌, ◌∷◌, append-nil, arith, refl, sym, length}
+use Rattle.std.proofs.Common.{[], ◌++◌, ◌∷◌, append-nil, arith, refl, sym}
 use Rattle.std.proofs.lemmas.Bool.{false≢true}
 use Rattle.std.proofs.lemmas.List.{length-append}
 use Rattle.pep440_compiled.proofs.PrintedParts.{goes_on_next, goes_on_no_more, next_fits, next_on}
