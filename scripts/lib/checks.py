@@ -38,8 +38,8 @@ def check_files():
     reads its scripts. Left out is what only names modules (Lib.antt), and the proof of one function, which lies where its function's name says."""
     yield from (f"{it.name}: a file at the top that is not known" for it in sorted(TOP.iterdir()) if it.is_file() and it.name not in AT_THE_TOP)
     for path in (path for crate in crates() for folder in ("src", "specs", "proofs") for path in files(crate, folder)):
-        is_left_out = "proofs" in path.parts and path.name in OF_A_FUNCTION or path.suffix == ".antt" and re.fullmatch(r"(?:(?:--.*|(?:pub )?mod \w+)?\n)*", text_of(path))
-        if not is_left_out and not COMMENT[path.suffix].match(text_of(path)):
+        is_left_out = "proofs" in path.parts and path.name.removesuffix(".txt") in OF_A_FUNCTION or path.suffix == ".antt" and re.fullmatch(r"(?:(?:--.*|(?:pub )?mod \w+)?\n)*", text_of(path))
+        if not is_left_out and not COMMENT[path.suffixes[0]].match(text_of(path)):
             yield f"{name_of(path)}: its first line does not say what it is about"
     rows = "\n".join(line for line in text_of("CONTRIBUTING.md").splitlines() if line.startswith("| "))
     for crate in crates():
@@ -61,7 +61,7 @@ def check_names():
 
 # ---- what pages name
 
-SOURCES = ("crates", "scripts", "bench", "callers", "docs/pictures", ".ci")
+SOURCES = ("crates", "tests", "scripts", "bench", "callers", "docs/pictures", ".ci")
 # Names of other crates, of placeholders and of a command of the toolchain.
 ELSEWHERE = """
     Arc Deref Deserialize FromIterator FromStr MIN_VERSION Serialize rkyv tidy tracing
@@ -195,9 +195,9 @@ def stands(block, text):
 
 
 def check_examples():
-    """Each block of `rust` and `antt` in docs/CALLING.md and at the head of the library stands word for word in the crate of examples, and not in its tests."""
+    """Each block of `rust` and `antt` in docs/CALLING.md and at the head of the library stands word for word in a crate of examples."""
     code = collections.defaultdict(list)
-    for path in (path for folder in ("src", "specs", "proofs") for path in files("examples", folder) if path.parent.name != "tests"):
+    for path in (path for crate in ("examples", "first") for folder in ("src", "specs", "proofs") for path in files(crate, folder)):
         code[path.suffix].append(text_of(path))
     found = 0
     for page in WITH_EXAMPLES:
@@ -261,7 +261,7 @@ def english_texts():
         kinds["pages"][name_of(path)] = (text_of_manual if path.suffix == ".1" else text_of_page)(text)
     for crate in crates():
         comments = [line for path in files(crate, "src") for line in [*re.findall(r"^\s*//[/!] ?(.*)$", text_of(path), re.M), ""]]
-        kinds["comments"][f"crates/{crate}"] = text_of_page("\n".join(comments))
+        kinds["comments"][crate] = text_of_page("\n".join(comments))
     help_texts = re.findall(r'_HELP: &str =\s+"(.*?)";', text_of("crates/pyver_tool/src/help.rt"), re.S)
     return {**kinds, "help": {"pyver --help": re.sub(r"\s+", " ", ". ".join(help_texts))}}
 
@@ -300,15 +300,6 @@ def check_lengths():
         yield f"the pages have {sum(counts.values()):,} words, at most {ALL_WORDS:,}"
 
 
-def check_counts():
-    """The repository has not more files, and scripts/ not more files and lines, than one can look through."""
-    scripts = [it for it in (TOP / "scripts").rglob("*") if it.is_file() and it.suffix != ".pyc"]
-    # (the copy in which scripts_test plants its faults is no repository of git)
-    tracked = subprocess.run(["git", "ls-files"], cwd=TOP, capture_output=True, text=True, check=(TOP / ".git").exists()).stdout.splitlines()
-    counts = [("files", len(tracked), 2_000), ("scripts", len(scripts), 24), ("lines of scripts", sum(len(text_of(it).splitlines()) for it in scripts), 5_000)]
-    yield from (f"there are {count:,} {what}, at most {most:,}" for what, count, most in counts if count > most)
-
-
 # ---- swept calls
 
 
@@ -316,7 +307,7 @@ def allocating_calls(crate):
     """Each public call that is passed the allocator, and each `clone` of a public type that is not `Copy`."""
     names, its_modules = exports(crate)
     for source in sources(crate):
-        is_public = source.path.relative_to(TOP / "crates" / crate / "src").with_suffix("").parts[0] in its_modules
+        is_public = source.path.relative_to(crates()[crate].folder / "src").with_suffix("").parts[0] in its_modules
         yield from (f"{it.owner}::clone" for it in source.blocks if it.trait == "Clone" and it.owner in names)
         for derived, kind in re.findall(r"^#\[derive\(([^)]*)\)\]\n(?:#.*\n)*pub (?:struct|enum) (\w+)", source.text, re.M):
             if kind in names and "Clone" in derived.split(", ") and "Copy" not in derived.split(", "):
@@ -358,7 +349,7 @@ ARM = re.compile(r'"([\w-]+)"(?:, [^)\n]*\))? => (.*?)(?=\n +(?:\(?"|_ |\(_)|\n 
 @functools.cache
 def sweeps_of(crate):
     """For each test `sweep_..` of the crate and each case that its `stdin` has: the text of what it calls in turn, in the crate and in `testing`."""
-    own, stdin = "".join(map(text_of, files(crate, "src"))), TOP / "crates" / crate / "stdin"
+    own, stdin = "".join(map(text_of, files(crate, "src"))), crates()[crate].folder / "stdin"
     items = items_of(own + "".join(map(text_of, files("testing", "src"))))
     cases = re.findall(r"^[\w-]+(?=\t)", text_of(stdin), re.M) if stdin.exists() else []
     arms = [arm for name, arm in ARM.findall(own) if name in cases]
@@ -370,7 +361,7 @@ def is_swept(crate, call, asked=()):
     owner, _, word = call.rpartition("::")
     # of a clone: the type, in itself or in another
     named = re.compile(rf"\b{owner}\b" if word == "clone" else rf"(?<!fn )\b{word}\(")
-    tests = [it for it, other in crates().items() if crate in other.uses and (it == "examples" or other.is_of_tests)]
+    tests = [it for it, other in crates().items() if crate in other.uses and other.is_of_tests]
     if any(named.search(text) and word in text for it in tests for text in sweeps_of(it)):
         return True
     for above in [crate] if tests else [it for it in libraries() if it == crate or crate in crates()[it].uses]:

@@ -11,7 +11,7 @@ import shutil
 import sys
 from typing import NamedTuple
 
-from lib.sources import TOP, text_of, with_below
+from lib.sources import LISTS, TOP, crates, listed, text_of, with_below
 
 FUNCTION = re.compile(r"^( *)(?:pub(?:\([a-z]+\))? )?(?:const )?(?:unsafe )?(?:extern \"C\" )?fn (\w+)", re.M)
 
@@ -137,9 +137,13 @@ def module_of(file):
 
 
 def copy(names, room, *left_out):
-    """Copies into this folder the crates of these names and those that they depend on, but for files and folders of the names left out."""
+    """Copies into this folder the crates of these names and those that they depend on, but for files and folders of the names left out. There programs
+    of test cases are crates like all others, whose sources have no second ending."""
     found = {it for name in names for it in with_below(name)}
-    listed = [line for line in text_of("crates.txt").splitlines(True) if re.match(r"\w*", line)[0] in found]
-    write_all(room, {"crates.txt": "".join(listed), "HANDLES": text_of("HANDLES")})
+    lines = [line for folder in LISTS for line in listed(folder).splitlines(True) if re.match(r"\w*", line)[0] in found]
+    write_all(room, {"crates.txt": "".join(lines), "HANDLES": text_of("HANDLES")})
     for name in found:
-        shutil.copytree(f"{TOP}/crates/{name}", f"{room}/crates/{name}", symlinks=True, ignore=shutil.ignore_patterns(*left_out))
+        to = f"{room}/crates/{name}"
+        shutil.copytree(crates()[name].folder, to, symlinks=True, ignore=shutil.ignore_patterns(*left_out))
+        for path in () if crates()[name].is_proved else glob.glob(f"{to}/**/*.*t.txt", recursive=True):
+            os.rename(path, path.removesuffix(".txt"))

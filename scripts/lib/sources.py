@@ -26,17 +26,26 @@ def name_of(path):
     return str(path.relative_to(TOP))
 
 
-# A crate of crates.txt: whether it is a static library, a library, of tests, and all that it depends on.
-Crate = collections.namedtuple("Crate", "is_static is_library is_of_tests uses")
+# A crate: its folder, whether it is proved, a static library, a library, of tests or examples, and all that it depends on.
+Crate = collections.namedtuple("Crate", "folder is_proved is_static is_library is_of_tests uses")
+# What lists the crates of a folder: those that are proved, and the programs of test cases, which are not.
+LISTS = {"crates": "crates.txt", "tests": "tests/programs.txt"}
+
+
+def listed(folder):
+    return text_of(LISTS[folder]) if (TOP / LISTS[folder]).exists() else ""
 
 
 @functools.cache
 def crates():
     """Each crate by its name, in the order in which to read them."""
     found = {}
-    for name, kind, uses in re.findall(r"^(\w+) *(\w*):(.*)$", text_of("crates.txt"), re.M):
-        is_library = (TOP / f"crates/{name}/src/lib.rt").exists()
-        found[name] = Crate(kind == "staticlib", is_library, bool(re.search("(^|_)(tests?|testing|vectors)$", name)), uses.split())
+    for folder in LISTS:
+        for name, kind, uses in re.findall(r"^(\w+) *(\w*):(.*)$", listed(folder), re.M):
+            here = TOP / folder / name
+            is_library = any((here / f"src/lib.rt{ending}").exists() for ending in ("", ".txt"))
+            is_of_tests = bool(re.search("(^|_)(tests?|testing|vectors)$|^(examples|first)$", name))
+            found[name] = Crate(here, folder == "crates", kind == "staticlib", is_library, is_of_tests, uses.split())
     return found
 
 
@@ -51,7 +60,12 @@ def libraries():
 
 def files(crate, folder):
     """The sources of a crate in src/, specs/ or proofs/."""
-    return sorted(it for it in (TOP / "crates" / crate / folder).rglob("*") if it.suffix in (".rt", ".antt"))
+    return sorted(it for it in (crates()[crate].folder / folder).rglob("*") if it.name.removesuffix(".txt").endswith((".rt", ".antt")))
+
+
+def stem_of(path):
+    """The name of a source without its endings."""
+    return path.name.partition(".")[0]
 
 
 # ---- definitions
@@ -108,7 +122,7 @@ def read_module(path, text):
 @functools.cache
 def modules():
     """The files of all specs/, by crate and module, as `Sources.InputLines`."""
-    paths = {(crate, path): path.relative_to(TOP / f"crates/{crate}/specs").with_suffix("") for crate in crates() for path in files(crate, "specs")}
+    paths = {(crate, path): path.relative_to(crates()[crate].folder / "specs").with_suffix("") for crate in crates() for path in files(crate, "specs")}
     return {(crate, ".".join(inner.parts)): read_module(path, text_of(path)) for (crate, path), inner in paths.items()}
 
 
@@ -192,7 +206,7 @@ class Source:
 
 def code_of(crate):
     """The files of code of a crate without its tests."""
-    src = TOP / "crates" / crate / "src"
+    src = crates()[crate].folder / "src"
     return [it for it in files(crate, "src") if "tests" not in it.relative_to(src).with_suffix("").parts]
 
 

@@ -192,7 +192,7 @@ def direct(name):
 def boxes_and_arrows():
     """The lines of each box by its name, and the names at both ends of each arrow."""
     promises = dict(line.split(": ", 1) for line in text_of(f"{FOLDER}/promises.txt").splitlines() if line and not line.startswith("#"))
-    tests = [name for name, it in crates().items() if it.is_of_tests or name == "examples"]
+    tests = [name for name, it in crates().items() if it.is_of_tests]
     boxes = {name: [promises.pop(name, "NO PROMISE")] for name in crates() if name not in tests}
     boxes |= {name: ["NO CRATE", promise] for name, promise in promises.items()}
     arrows = {(name, below) for name in crates() if name not in tests for below in direct(name)}

@@ -5,7 +5,7 @@ stands in backquotes is not read.
 """
 import re
 
-from lib.sources import TOP, crates, files, libraries, modules, name_of, pages, prose as page_prose, sources, text_of
+from lib.sources import TOP, crates, files, libraries, modules, name_of, pages, prose as page_prose, sources, stem_of, text_of
 
 WORDS = [(re.compile(rf"\b(?:{old})\b", re.I), new) for old, new in [
     (r"refus(?:e|es|ed|ing|als?)", "reject, error; of an allocation: fail"),
@@ -59,7 +59,7 @@ def code():
 def prose():
     """Each line of a comment or a page, code blocks left out."""
     for path in code():
-        mark = "//" if path.suffix == ".rt" else "--"
+        mark = "--" if path.suffix == ".antt" else "//"
         yield from ((at, line.partition(mark)[2]) for at, line in lines_of(path) if mark in line)
     for path in pages():
         yield from ((f"{name_of(path)}:{number}", line) for number, line in page_prose(path))
@@ -106,10 +106,10 @@ def meanings():
             yield f"crates.txt: {crate} -> another name: it does not depend on {tested[crate]}"
     found = {}
     for at in (path.relative_to(TOP) for path in code()):
-        if at.stem.lower() in OTHERS:
+        if stem_of(at).lower() in OTHERS:
             yield f"{at} -> what is in it"
         if tested[at.parts[1]] == at.parts[1] and "tests" not in at.parts:
-            for name, place in [(f"module {at.stem}", at), *((f"type {name_of_item(TYPE, line)}", it) for it, line in lines_of(TOP / at))]:
+            for name, place in [(f"module {stem_of(at)}", at), *((f"type {name_of_item(TYPE, line)}", it) for it, line in lines_of(TOP / at))]:
                 found.setdefault(name, {}).setdefault(at.parts[1], str(place))
     yield from (f"{name} -> a name for each: {' '.join(it.values())}" for name, it in found.items() if len(it) > 1 and name.split(" ")[1] not in ROLES)
 

@@ -1,5 +1,4 @@
-//! A first program: which of some strings are versions, and which of these the list contains; and five cores of small programs, a module
-//! each, written as a caller would write them. `docs/CALLING.md` shows parts of them. `tests` has what else callers need of the libraries.
+//! A first program: which of some strings are versions, and which of these the list contains. `docs/CALLING.md` shows it.
 #![tactic(auto)]
 
 use anyhow::Result;
@@ -18,11 +17,3 @@ fn main(rt: HostRuntime) -> Result<()> {
     }
     Ok(())
 }
-
-pub mod downloads;
-pub mod lock;
-pub mod page;
-#[cfg(test)]
-mod tests;
-pub mod untrusted;
-pub mod within;
