@@ -54,6 +54,15 @@ def with_below(name):
     return list(dict.fromkeys([other for it in crates()[name].uses if it in crates() for other in with_below(it)] + [name]))
 
 
+def lines_of_chains():
+    """For each crate that is proved the lines of the longest chain from it up through crates that depend on one another, the longest chain first."""
+    found = {}
+    for name in reversed([name for name, it in crates().items() if it.is_proved]):
+        above = [found[other] for other, it in crates().items() if other in found and name in it.uses]
+        found[name] = sum(text_of(path).count("\n") for folder in ("src", "specs", "proofs") for path in files(name, folder)) + max(above, default=0)
+    return dict(sorted(found.items(), key=lambda it: -it[1]))
+
+
 def libraries():
     return sorted(name for name, it in crates().items() if it.is_library and not it.is_of_tests)
 
