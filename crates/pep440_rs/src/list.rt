@@ -1,6 +1,6 @@
 //! Lists of specifiers: how one is made and read, its members, its forms as a string and as JSON, its order and hash.
 ghost use Rattle.std.specs.Prelude.{◌≡◌, ◌≢◌, ◌==◌, ◌∷◌, ◌++◌, not, [], ℕ, List, codes, length, IfOk, IfErr, IfSome, IsOk, IsTrue, Some, Ok, Err, refl, ◌↔◌, IsErrOf, IsSomeAnd, None};
-ghost use Rattle.std.specs.List.{All, flat_map, fold};
+ghost use Rattle.std.specs.List.{All};
 ghost use Rattle.std.specs.Slice.Iter.{iter_rest};
 ghost use Rattle.std.specs.Vec.Iter.{into_iter_items};
 ghost use Rattle.pep440_rs.specs.Agreement.{HasOperand};
@@ -167,12 +167,14 @@ impl VersionSpecifiers {
         ensures lifted { IfErr result (λ e. IsListLifted (list_kind_of e)) }
         ensures line { IfErr result (λ e. line_of e ≡ line_for text.now (list_kind_of e)) }
     {
-        let members = read::parse_members(alloc, text).map_err(
-            |kind| VersionSpecifiersParseError::from_text(alloc, text, kind),
-        )?;
-        VersionSpecifiers::from_specifiers(alloc, members).map_err(
-            |_| VersionSpecifiersParseError::out_of_memory(alloc),
-        )
+        let members = match read::parse_members(alloc, text) {
+            Ok(members) => members,
+            Err(kind) => return Err(VersionSpecifiersParseError::from_text(alloc, text, kind)),
+        };
+        match VersionSpecifiers::from_specifiers(alloc, members) {
+            Ok(list) => Ok(list),
+            Err(_) => Err(VersionSpecifiersParseError::out_of_memory(alloc)),
+        }
     }
 
     /// The list that the string denotes: specifiers with commas between them, by version, and those with equal
@@ -372,14 +374,6 @@ impl Ord for VersionSpecifiers {
     }
 }
 
-fn hash_members<H: Hasher>(members: &[VersionSpecifier], state: &mut H)
-    ensures { state.new ≡ fold H.write state.old (flat_map feed_spec members.now) }
-{
-    for member in members {
-        member.hash(state);
-    }
-}
-
 impl Hash for VersionSpecifiers {
     ghost hash_input = { feed_items feed_spec };
 
@@ -388,7 +382,7 @@ impl Hash for VersionSpecifiers {
     fn hash<H: Hasher>(&self, state: &mut H) {
         let members = self.as_slice();
         state.write_u64(members.len() as u64);
-        hash_members(members, state);
+        VersionSpecifier::hash_slice(members, state);
     }
 }
 

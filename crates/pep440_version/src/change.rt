@@ -85,33 +85,37 @@ impl Version {
         ensures ok { IfOk result (λ v. apply_edit position self (edit change.now) ≡ Ok v) }
         ensures err { IfErr result (λ e. (e ≡ OutOfMemory) ⊎ (apply_edit position self (edit change.now) ≡ Err e)) }
     {
-        match change {
+        let changed = match change {
             Change::Release(numbers) => {
                 if numbers.is_empty() {
                     return Err(ChangeError::EmptyRelease(position));
                 }
-                Ok(self.with_release(alloc, numbers.as_slice())?)
+                self.with_release(alloc, numbers.as_slice())
             }
-            Change::Epoch(epoch) => Ok(self.with_epoch(alloc, *epoch)?),
-            Change::Pre(pre) => Ok(self.with_pre(alloc, *pre)?),
-            Change::Post(post) => Ok(self.with_post(alloc, *post)?),
-            Change::Dev(dev) => Ok(self.with_dev(alloc, *dev)?),
-            Change::Local(local) => Ok(self.with_copied_local(alloc, local)?),
-            Change::WithoutLocal => Ok(self.without_local(alloc)?),
-            Change::OnlyRelease => Ok(self.only_release(alloc)?),
+            Change::Epoch(epoch) => self.with_epoch(alloc, *epoch),
+            Change::Pre(pre) => self.with_pre(alloc, *pre),
+            Change::Post(post) => self.with_post(alloc, *post),
+            Change::Dev(dev) => self.with_dev(alloc, *dev),
+            Change::Local(local) => self.with_copied_local(alloc, local),
+            Change::WithoutLocal => self.without_local(alloc),
+            Change::OnlyRelease => {
+                let version = self;
+                version.only_release(alloc)
+            }
             Change::Min(min) => {
                 if self.pre().is_some() || self.dev().is_some() {
                     return Err(ChangeError::MinNotAllowed(position));
                 }
-                Ok(self.with_min(alloc, *min)?)
+                self.with_min(alloc, *min)
             }
             Change::Max(max) => {
                 if self.post().is_some() || self.dev().is_some() {
                     return Err(ChangeError::MaxNotAllowed(position));
                 }
-                Ok(self.with_max(alloc, *max)?)
+                self.with_max(alloc, *max)
             }
-        }
+        };
+        Ok(changed?)
     }
 
     /// The version after the changes, applied in order by their setters.

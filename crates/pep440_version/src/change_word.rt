@@ -2,14 +2,14 @@
 ghost use Rattle.std.specs.Prelude.{◌≡◌, ◌==◌, map, IfOk};
 ghost use Rattle.pep440_version.specs.Changes.ChangeWordResults.{ReadsAs};
 ghost use Rattle.std.specs.List.{slice_split};
-ghost use Rattle.std.specs.Char.{is_ascii_digit, is_ascii_alphanumeric};
 ghost use Rattle.std.specs.Option.{option_map, option_copied};
-ghost use Rattle.pep440_version.specs.Changes.ChangeWords.{is_run, number_of, after, parse_prerelease_of_kind, prerelease_of, local_segment_of, or_none, pieces_of, all_of, dotted_of, field_change, bare_change, change_of};
+ghost use Rattle.pep440_version.specs.Changes.ChangeWords.{number_of, after, parse_prerelease_of_kind, prerelease_of, local_segment_of, or_none, pieces_of, all_of, dotted_of, field_change, bare_change, change_of};
 ghost use Rattle.pep440_version.specs.Changes.{edit};
 ghost use Rattle.pep440_version.specs.Segments.{segment};
 ghost use Rattle.pep440_version.specs.declared.change_word.ChangeWordError.TheVariants.{OutOfMemory};
 
 use crate::change::Change;
+use crate::parse::{local, scan};
 use crate::prerelease::{Prerelease, PrereleaseKind};
 use crate::segment::LocalSegment;
 use std::alloc::{AllocError, AllocFailed, Global};
@@ -39,28 +39,14 @@ impl<T: Drop> From<AllocFailed<T>> for ChangeWordError {
     }
 }
 
-fn is_digits(text: &str) -> bool
-    ensures { result ≡ is_run is_ascii_digit text.now }
-{
-    let bytes = text.as_bytes();
-    !bytes.is_empty() && bytes.iter().all(|byte| byte.is_ascii_digit())
-}
-
-fn is_alphanumeric(text: &str) -> bool
-    ensures { result ≡ is_run is_ascii_alphanumeric text.now }
-{
-    let bytes = text.as_bytes();
-    !bytes.is_empty() && bytes.iter().all(|byte| byte.is_ascii_alphanumeric())
-}
-
 // One or more digits, zeros may lead, whose value fits.
 fn parse_number(text: &str) -> Option<u64>
     ensures { result ≡ number_of text.now }
 {
-    if !is_digits(text) {
+    if text.is_empty() || !scan::is_digits(text) {
         return None;
     }
-    text.parse::<u64>().ok()
+    scan::parse_u64(text)
 }
 
 // The rest after the spelling, if the string begins with it.
@@ -149,13 +135,10 @@ fn parse_numbers(alloc: Global, text: &str) -> Result<Vec<u64>, ChangeWordError>
 fn parse_segment(alloc: Global, text: &str) -> Result<LocalSegment, ChangeWordError>
     ensures { ReadsAs segment result (local_segment_of text.now) }
 {
-    if !is_alphanumeric(text) {
+    if text.is_empty() || !scan::is_alphanumeric(text) {
         return Err(ChangeWordError::NotAChange);
     }
-    match parse_number(text) {
-        Some(number) => Ok(LocalSegment::Number(number)),
-        None => Ok(LocalSegment::String(text.to_ascii_lowercase(alloc)?)),
-    }
+    Ok(local::parse_segment(alloc, text)?)
 }
 
 // The segment of each piece.

@@ -11,11 +11,11 @@ ghost use Rattle.pep440_version.specs.RoundTrip.{RoundTrips};
 ghost use Rattle.pep440_version.specs.Word.{is_packed};
 ghost use Rattle.pep440_version.specs.Whole.{parse_release_after_first, parse_epoch_and_release, parse_through_release, parse_parts, parse_end, parse_after_release, starts_with_star, read_pattern, read_version};
 
-mod local;
+pub(crate) mod local;
 mod normal;
 mod normal_parts;
 mod number;
-mod scan;
+pub(crate) mod scan;
 mod suffix;
 
 use self::local::parse_local;

@@ -54,6 +54,16 @@ pub(crate) fn pad_with_zeros(numbers: &[u64]) -> [u64; 4]
     }
 }
 
+// These numbers and one more, with room for eight.
+fn extend(alloc: Global, numbers: &[u64], number: u64) -> Result<Vec<u64>, AllocError>
+    ensures { IfOk result (λ v. v.items ≡ numbers.now ++ number ∷ []) }
+{
+    let mut many = Vec::with_capacity(alloc, 8)?;
+    many.extend_from_slice(numbers)?;
+    many.push(number)?;
+    Ok(many)
+}
+
 impl Release {
     // The first `count` of four numbers.
     pub(crate) fn from_array(numbers: [u64; 4], count: usize) -> Release
@@ -105,9 +115,7 @@ impl Release {
                 few.count += 1;
             }
             Storage::Few(few) => {
-                let mut many = Vec::with_capacity(alloc, 8)?;
-                many.extend_from_slice(&few.numbers[..few.count])?;
-                many.push(number)?;
+                let many = extend(alloc, &few.numbers[..few.count], number)?;
                 self.storage = Storage::Many(many);
             }
             Storage::Many(many) => many.push(number)?,

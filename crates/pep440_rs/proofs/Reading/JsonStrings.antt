@@ -67,6 +67,19 @@ module _ {E F : Type 0} (refusal : E → Option F) where
   made_error (Err e) (Ok x) P is fact = absurd is
   made_error (Err e) (Err j) P is fact = text_of_made e P (refusal e) j is fact
 
+  twice : (o : Option F) (Q : F → Type 0) → IfSome o Q → IfSome o (λ _. IfSome o Q)
+  twice None Q fact = tt
+  twice (Some f) Q fact = fact
+
+  of_error : {X : Type 0} (read : Result X E) (Q : E → F → Type 0) → IfErr read (λ e. IfSome (refusal e) (Q e)) → IfErr read (λ e. IfSome (refusal e) (λ _. IfSome (refusal e) (Q e)))
+  of_error (Ok x) Q fact = tt
+  of_error (Err e) Q fact = twice (refusal e) (Q e) fact
+
+  -- what is told of the refusal of the text
+  pub made_told : {X : Type 0} (read : Result X E) (made : Result X (JsonError E)) (Q : E → F → Type 0) → Made read made → IfErr read (λ e. IfSome (refusal e) (Q e))
+      → IfErr made (λ e. IfParserError e (λ inner. IfSome (refusal inner) (Q inner)))
+  made_told read made Q is fact = made_error read made (λ e. IfSome (refusal e) (Q e)) is (of_error read Q fact)
+
 -- what a refusal says of the text is said of the value's text
 with_text : {F : Type 0} (R : List ℕ → F → Type 0) (a : List ℕ) (o : Option (List ℕ)) (r : Option F) → o ≡ Some a → IfSome r (R a) → IfSome r (λ f. (t : List ℕ) × (o ≡ Some t) × R t f)
 with_text R a o None is fact = tt

@@ -1,5 +1,5 @@
 //! The range of a specifier, by releases only.
-ghost use Rattle.std.specs.Prelude.{◌≡◌, ◌≤◌, ◌<◌, length, IfOk, IsErrOf, Some, None};
+ghost use Rattle.std.specs.Prelude.{◌≡◌, ◌≢◌, ◌≤◌, ◌<◌, length, IfOk, IsErrOf, Some, None};
 ghost use Rattle.pep440_rs.specs.Agreement.{Agrees, IsReleaseComparable};
 ghost use Rattle.pep440_rs.specs.Bounds.{release_range_of, release_up_to};
 ghost use Rattle.pep440_rs.specs.RaisedNumbers.{ReportsMax, raised_release_number, raises_max};
@@ -41,6 +41,28 @@ fn exclude_release(alloc: Global, release: Version) -> Result<Ranges<Version>, A
     one.complement(alloc)
 }
 
+// The range of an operator that raises no number.
+fn convert_unraised(
+    alloc: Global,
+    operator: Operator,
+    release: Version,
+) -> Result<Ranges<Version>, AllocError>
+    requires only { release ≡ from_release release.release }
+    requires no_compatible { operator ≢ Operator.TildeEqual }
+    requires no_star { operator ≢ Operator.EqualStar }
+    requires no_other_star { operator ≢ Operator.NotEqualStar }
+    ensures { IfOk result (λ r. release_range_of operator release ≡ Some r) }
+{
+    match operator {
+        Operator::NotEqual => exclude_release(alloc, release),
+        Operator::LessThan => Ranges::strictly_lower_than(alloc, release),
+        Operator::LessThanEqual => Ranges::lower_than(alloc, release),
+        Operator::GreaterThan => Ranges::strictly_higher_than(alloc, release),
+        Operator::GreaterThanEqual => Ranges::higher_than(alloc, release),
+        _ => Ranges::singleton(alloc, release),
+    }
+}
+
 // The range, operator by operator.
 fn convert_release(
     alloc: Global,
@@ -53,26 +75,13 @@ fn convert_release(
 {
     let numbers = version.release();
     match operator {
-        Operator::Equal | Operator::ExactEqual => {
-            Ok(Ranges::singleton(alloc, version.only_release(alloc)?)?)
-        }
-        Operator::NotEqual => Ok(exclude_release(alloc, version.only_release(alloc)?)?),
         Operator::TildeEqual => convert_prefix(alloc, numbers, without_last(numbers)),
-        Operator::LessThan => {
-            Ok(Ranges::strictly_lower_than(alloc, version.only_release(alloc)?)?)
-        }
-        Operator::LessThanEqual => Ok(Ranges::lower_than(alloc, version.only_release(alloc)?)?),
-        Operator::GreaterThan => {
-            Ok(Ranges::strictly_higher_than(alloc, version.only_release(alloc)?)?)
-        }
-        Operator::GreaterThanEqual => {
-            Ok(Ranges::higher_than(alloc, version.only_release(alloc)?)?)
-        }
         Operator::EqualStar => convert_prefix(alloc, numbers, numbers),
         Operator::NotEqualStar => {
             let inside = convert_prefix(alloc, numbers, numbers)?;
             Ok(inside.complement(alloc)?)
         }
+        _ => Ok(convert_unraised(alloc, operator, version.only_release(alloc)?)?),
     }
 }
 

@@ -1,5 +1,5 @@
 //! The range of a specifier, by the whole order of versions.
-ghost use Rattle.std.specs.Prelude.{◌≡◌, ◌≤◌, length, IfOk, IsErrOf, Some, None};
+ghost use Rattle.std.specs.Prelude.{◌≡◌, ◌≢◌, ◌≤◌, length, IfOk, IsErrOf, Some, None};
 ghost use Rattle.pep440_rs.specs.Agreement.{Agrees, IsCandidate, HasOperand, HoldsOnlyMatches, HoldsAllMatches};
 ghost use Rattle.pep440_rs.specs.Bounds.{range_of, less, greater, compatible_end, star, star_end};
 ghost use Rattle.pep440_rs.specs.RaisedNumbers.{ReportsMax, raised_number, raises_max};
@@ -101,6 +101,27 @@ fn convert_star(alloc: Global, version: Version) -> Result<Ranges<Version>, Rang
     Ok(Ranges::from_range_bounds(alloc, Bound::Included(start), Bound::Excluded(end))?)
 }
 
+// The range of an operator that raises no number.
+fn convert_unraised(
+    alloc: Global,
+    operator: Operator,
+    version: Version,
+) -> Result<Ranges<Version>, AllocError>
+    requires no_compatible { operator ≢ Operator.TildeEqual }
+    requires no_greater { operator ≢ Operator.GreaterThan }
+    requires no_star { operator ≢ Operator.EqualStar }
+    requires no_other_star { operator ≢ Operator.NotEqualStar }
+    ensures { IfOk result (λ r. range_of operator version ≡ Some r) }
+{
+    match operator {
+        Operator::NotEqual => exclude_version(alloc, version),
+        Operator::LessThan => convert_less(alloc, version),
+        Operator::LessThanEqual => Ranges::lower_than(alloc, version),
+        Operator::GreaterThanEqual => Ranges::higher_than(alloc, version),
+        _ => Ranges::singleton(alloc, version),
+    }
+}
+
 // The range, operator by operator.
 pub(crate) fn convert(
     alloc: Global,
@@ -112,18 +133,14 @@ pub(crate) fn convert(
     ensures refused { IsErrOf result RangeError.NumberAtMax → range_of operator version ≡ None }
 {
     match operator {
-        Operator::Equal | Operator::ExactEqual => Ok(Ranges::singleton(alloc, version)?),
-        Operator::NotEqual => Ok(exclude_version(alloc, version)?),
         Operator::TildeEqual => convert_compatible(alloc, version),
-        Operator::LessThan => Ok(convert_less(alloc, version)?),
-        Operator::LessThanEqual => Ok(Ranges::lower_than(alloc, version)?),
         Operator::GreaterThan => convert_greater(alloc, version),
-        Operator::GreaterThanEqual => Ok(Ranges::higher_than(alloc, version)?),
         Operator::EqualStar => convert_star(alloc, version),
         Operator::NotEqualStar => {
             let inside = convert_star(alloc, version)?;
             Ok(inside.complement(alloc)?)
         }
+        _ => Ok(convert_unraised(alloc, operator, version)?),
     }
 }
 

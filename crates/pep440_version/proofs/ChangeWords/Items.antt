@@ -1,17 +1,11 @@
--- Lists that are read from the left, item by item, and the numbers in them.
-use Rattle.std.proofs.Common.{Bor, ◌≡◌, ◌+◌, ◌<◌, ℕ, List, [], ◌∷◌, ◌++◌, length, drop, get_or, map, Option, Some, None, refl, sym, ap, ◌∙◌, append_assoc, option_and_then, Result, Ok, Err, subst, ◌^◌, ◌&&◌, Bool, true, false, nat_lt, if◌then◌else◌}
+-- Lists that are read from the left, item by item.
+use Rattle.std.proofs.Common.{Bor, ◌≡◌, ◌+◌, ◌<◌, ℕ, List, [], ◌∷◌, ◌++◌, length, drop, get_or, map, Option, Some, None, refl, sym, ap, ◌∙◌, append_assoc, option_and_then, Result, Ok, Err, subst}
 use Rattle.std.specs.Option.{option_map}
 use Rattle.std.proofs.lemmas.List.{drop_more, get_or-map, length-map}
-use Rattle.pep440_version.specs.Changes.ChangeWords.{all_of, is_run, number_of}
+use Rattle.pep440_version.specs.Changes.ChangeWords.{all_of}
 use Rattle.std.specs.Prelude.{IsErrAnd}
 use Rattle.pep440_version.specs.Changes.ChangeWordResults.{Lacks, ReadsAs}
 use Rattle.pep440_version.specs.declared.change_word.ChangeWordError.{ChangeWordError}
-use Rattle.std.proofs.lemmas.Bool.{ltb-true}
-use Rattle.std.specs.Char.{is_ascii_digit}
-use Rattle.std.specs.List.{list_all}
-use Rattle.std.specs.Result.{result_ok}
-use Rattle.std.specs.Str.Parse.{digits_value, ParsesUnsigned}
-use Rattle.pep440_version.proofs.Reading.Digits.{value_of}
 use Rattle.pep440_version.specs.declared.change_word.ChangeWordError.TheVariants as no
 
 -- items that were found, and then the rest
@@ -57,19 +51,3 @@ lacks_weaker P Q all no.OutOfMemory h = tt
 pub not_read : {X A : Type 0} (view : X → A) (read : Option A) (P : Type 0) (e : ChangeWordError) (result : Result X ChangeWordError) → Lacks P e → (P → read ≡ None) → IsErrAnd result (λ x. x ≡ e) → ReadsAs view result read
 not_read view read P e (Ok x) h all never = absurd never
 not_read view read P e (Err x) h all same = subst (Lacks (read ≡ None)) (sym same) (lacks_weaker P (read ≡ None) all e h)
-
--- ---- the number that digits denote
-
-both : (a b : Bool) → (a && b) ≡ true → (a ≡ true) × (b ≡ true)
-both true b e = (refl, e)
-both false b e = cc e
-
-first_holds : {A : Type 0} (a b : Bool) (x y : A) → a ≡ true → (if a && b then x else y) ≡ (if b then x else y)
-first_holds true b x y e = refl
-first_holds false b x y e = cc e
-
-pub number_when : {E : Type 0} (text : List ℕ) (r : Result ℕ E) → is_run is_ascii_digit text ≡ true → ParsesUnsigned 64 10 text r → result_ok r ≡ number_of text
-number_when text r run p =
-    let parts = both (nat_lt 0 (length text)) (list_all is_ascii_digit text) run in
-    value_of text r parts.1 (ltb-true 0 (length text) parts.0) p
-    ∙ sym (first_holds (is_run is_ascii_digit text) (nat_lt (digits_value 10 text) (2 ^ 64)) (Some (digits_value 10 text)) None run)

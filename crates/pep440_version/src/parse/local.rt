@@ -15,7 +15,7 @@ use crate::segment::LocalSegment;
 use std::alloc::{AllocError, Global};
 
 // The segment of these letters and digits.
-fn parse_segment(alloc: Global, text: &str) -> Result<LocalSegment, AllocError>
+pub(crate) fn parse_segment(alloc: Global, text: &str) -> Result<LocalSegment, AllocError>
     requires { 0 < length text.now }
     ensures { IfOk result (λ s. segment s ≡ parse_segment text.now) }
 {

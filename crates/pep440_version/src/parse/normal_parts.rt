@@ -27,22 +27,22 @@ fn skip_letter(text: &[u8]) -> &[u8]
     ensures { result.now ≡ skip_v text.now }
 {
     match text {
-        [b'v', rest @ ..] => rest,
-        [b'V', rest @ ..] => rest,
+        [b'v' | b'V', rest @ ..] => rest,
         _ => text,
     }
 }
 
 // The leading epoch, 0 if none is written, and the rest.
 #[inline(always)]
-fn parse_normal_epoch(text: &[u8]) -> Option<(u64, &[u8])>
-    ensures { IfSome result (λ x. (e : List ℕ) × IsEpoch e x.0 × (text.now ≡ e ++ x.1.now)) }
+fn parse_normal_epoch(text: &[u8]) -> (u64, &[u8])
+    ensures { (e : List ℕ) × IsEpoch e result.0 × (text.now ≡ e ++ result.1.now) }
 {
-    let (number, after) = parse_small_number(text)?;
-    match after {
-        [b'!', rest @ ..] => Some((number, rest)),
-        _ => Some((0, text)),
+    if let Some((number, after)) = parse_small_number(text) {
+        if let [b'!', rest @ ..] = after {
+            return (number, rest);
+        }
     }
+    (0, text)
 }
 
 // The kind of pre-release of a class.
@@ -63,32 +63,32 @@ fn find_kind(class: u64) -> Option<PrereleaseKind>
 
 // The leading pre-release, and the rest.
 #[inline(always)]
-fn parse_normal_pre(text: &[u8]) -> Option<(Option<Prerelease>, &[u8])>
-    ensures { IfSome result (λ x. (p : List ℕ) × IsPre p x.1.now x.0 × (text.now ≡ p ++ x.1.now)) }
+fn parse_normal_pre(text: &[u8]) -> (Option<Prerelease>, &[u8])
+    ensures { (p : List ℕ) × IsPre p result.1.now result.0 × (text.now ≡ p ++ result.1.now) }
 {
-    let Some((class, digits)) = parse_class(text) else {
-        return Some((None, text));
-    };
-    let Some(kind) = find_kind(class) else {
-        return Some((None, text));
-    };
-    let (number, rest) = parse_small_number(digits)?;
-    Some((Some(Prerelease { kind, number }), rest))
+    if let Some((class, digits)) = parse_class(text) {
+        if let Some(kind) = find_kind(class) {
+            if let Some((number, rest)) = parse_small_number(digits) {
+                return (Some(Prerelease { kind, number }), rest);
+            }
+        }
+    }
+    (None, text)
 }
 
 // The number of the leading suffix of this class, and the rest.
 #[inline(always)]
-fn parse_suffix_of(class: u64, text: &[u8]) -> Option<(Option<u64>, &[u8])>
-    ensures { IfSome result (λ x. HasSuffix class text.now x.0 x.1.now) }
+fn parse_suffix_of(class: u64, text: &[u8]) -> (Option<u64>, &[u8])
+    ensures { HasSuffix class text.now result.0 result.1.now }
 {
-    let Some((found, digits)) = parse_class(text) else {
-        return Some((None, text));
-    };
-    if found != class {
-        return Some((None, text));
+    if let Some((found, digits)) = parse_class(text) {
+        if found == class {
+            if let Some((number, rest)) = parse_small_number(digits) {
+                return (Some(number), rest);
+            }
+        }
     }
-    let (number, rest) = parse_small_number(digits)?;
-    Some((Some(number), rest))
+    (None, text)
 }
 
 // The parts of the version that the string parses to; `None` if this pass cannot parse it.
@@ -96,11 +96,11 @@ fn parse_suffix_of(class: u64, text: &[u8]) -> Option<(Option<u64>, &[u8])>
 pub(crate) fn parse_normal_parts(text: &str) -> Option<NormalParts>
     ensures { IfSome result (λ parts. Derives text.now (from_parts parts.epoch parts.release parts.pre parts.post parts.dev [])) }
 {
-    let (epoch, after_epoch) = parse_normal_epoch(skip_letter(text.as_bytes()))?;
+    let (epoch, after_epoch) = parse_normal_epoch(skip_letter(text.as_bytes()));
     let (numbers, count, after_release) = parse_small_release(after_epoch)?;
-    let (pre, after_pre) = parse_normal_pre(after_release)?;
-    let (post, after_post) = parse_suffix_of(POST, after_pre)?;
-    let (dev, rest) = parse_suffix_of(DEV, after_post)?;
+    let (pre, after_pre) = parse_normal_pre(after_release);
+    let (post, after_post) = parse_suffix_of(POST, after_pre);
+    let (dev, rest) = parse_suffix_of(DEV, after_post);
     if !rest.is_empty() {
         return None;
     }

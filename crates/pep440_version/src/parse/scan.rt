@@ -131,6 +131,13 @@ pub(crate) fn is_digits(text: &str) -> bool
     count_digits(text.as_bytes()) == text.len()
 }
 
+// Whether all bytes are letters and digits.
+pub(crate) fn is_alphanumeric(text: &str) -> bool
+    ensures { result ≡ list_all is_ascii_alphanumeric text.now }
+{
+    count_alphanumerics(text.as_bytes()) == text.len()
+}
+
 // The string without its first byte, which is ASCII.
 pub(crate) fn skip_ascii(text: &str) -> &str
     requires some { 0 < length text.now }

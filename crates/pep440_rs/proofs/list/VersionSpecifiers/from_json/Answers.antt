@@ -1,4 +1,4 @@
-use Rattle.pep440_rs.proofs.Reading.JsonStrings.{made_answers, made_error, made_refused, from_text, one_text, with_texts}
+use Rattle.pep440_rs.proofs.Reading.JsonStrings.{made_answers, made_error, made_found, made_refused, from_text, one_text, with_texts}
 use Rattle.pep440_rs.proofs.Reading.ListTold.{holds_line}
 use Rattle.pep440_rs.specs.Json.{text_of}
 use Rattle.pep440_rs.specs.Lists.ListResults.{list_kind_of}
@@ -25,3 +25,6 @@ returns-clause-decided c = λ t f is means. made_answers (λ e. list_rejection_o
 pub returns-clause-line : goal.returns-clause-line
 returns-clause-line c = made_error (λ e. list_rejection_of (list_kind_of e)) c.from_str.result c.map_err.result _ c.map_err.ensures.cases
     (holds_line c.in_ok-text.text.now (text_of c.args.value.now) c.from_str.result c.in_ok-text.ensures c.from_str.ensures.line)
+
+pub returns-clause-found : goal.returns-clause-found
+returns-clause-found c = made_found (λ e. list_rejection_of (list_kind_of e)) c.from_str.result c.map_err.result _ _ (λ list means. (c.in_ok-text.text.now, c.in_ok-text.ensures, means)) c.map_err.ensures.cases c.from_str.ensures.found

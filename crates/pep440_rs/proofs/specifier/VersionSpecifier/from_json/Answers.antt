@@ -1,4 +1,6 @@
-use Rattle.pep440_rs.proofs.Reading.JsonStrings.{made_answers, made_found, made_refused, from_text, one_text, with_texts}
+use Rattle.std.proofs.Common.{◌≡◌, Some}
+use Rattle.pep440_rs.proofs.Reading.JsonStrings.{made_answers, made_found, made_refused, made_told, from_text, one_text, with_texts}
+use Rattle.pep440_rs.specs.ErrorTexts.{specifier_error_text, specifier_rejection_text}
 use Rattle.pep440_rs.specs.Errors.{parse_kind_of, specifier_rejection_of}
 use Rattle.pep440_rs.specs.Json.{text_of}
 use Rattle.pep440_rs.specs.Specifiers.SpecifierGrammar.{DerivesSpecifier, RejectsSpecifier}
@@ -22,3 +24,7 @@ returns-clause-decided c = λ t f is means. made_answers (λ e. specifier_reject
 
 pub returns-clause-found : goal.returns-clause-found
 returns-clause-found c = made_found (λ e. specifier_rejection_of (parse_kind_of e)) c.from_str.result c.map_err.result _ _ (λ s means. (c.in_ok-text.text.now, c.in_ok-text.ensures, means)) c.map_err.ensures.cases c.from_str.ensures.found
+
+pub returns-clause-message : goal.returns-clause-message
+returns-clause-message c = made_told (λ e. specifier_rejection_of (parse_kind_of e)) c.from_str.result c.map_err.result
+    (λ e f. specifier_error_text (specifier_rejection_of (parse_kind_of e)) ≡ Some (specifier_rejection_text f)) c.map_err.ensures.cases c.from_str.ensures.message
