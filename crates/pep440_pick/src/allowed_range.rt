@@ -20,10 +20,7 @@ pub fn add_members(
 ) -> Result<(), AllocError>
     ensures { IfOk result (λ _. members.new.items ≡ members.old.items ++ list.now) }
 {
-    for member in list.as_slice() {
-        members.push(member.clone()?)?;
-    }
-    Ok(())
+    members.extend_with_clones(list.as_slice())
 }
 
 // The members of the lists of the requirements of that name.

@@ -72,7 +72,7 @@ impl RequirementError {
 }
 
 /// Why a string is no requirement, and its position.
-#[derive(Debug, Drop)]
+#[derive(Drop)]
 pub struct RequirementParseError {
     /// Why.
     pub kind: RequirementError,
@@ -103,15 +103,16 @@ impl fmt::Display for RequirementError {
     ghost styled_output = { λ e _. requirement_text_of e };
 
     fn fmt<W: fmt::Write>(&self, f: &mut fmt::Formatter<W>) -> fmt::Result {
-        match self {
-            RequirementError::Marker => f.write_str("markers are not supported"),
-            RequirementError::Url => f.write_str("URLs are not supported"),
-            RequirementError::InvalidName => f.write_str("not a valid name"),
-            RequirementError::InvalidExtras => f.write_str("not valid extras"),
-            RequirementError::Unclosed => f.write_str("unclosed parenthesis"),
-            RequirementError::Specifiers(error) => fmt::Display::fmt(error, f),
-            RequirementError::OutOfMemory => f.write_str("out of memory"),
-        }
+        let text = match self {
+            RequirementError::Marker => "markers are not supported",
+            RequirementError::Url => "URLs are not supported",
+            RequirementError::InvalidName => "not a valid name",
+            RequirementError::InvalidExtras => "not valid extras",
+            RequirementError::Unclosed => "unclosed parenthesis",
+            RequirementError::Specifiers(error) => return fmt::Display::fmt(error, f),
+            RequirementError::OutOfMemory => "out of memory",
+        };
+        f.write_str(text)
     }
 }
 

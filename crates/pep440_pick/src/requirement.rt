@@ -13,7 +13,7 @@ use pep440_rs::VersionSpecifiers;
 use std::alloc::{AllocError, Global};
 
 /// What a line asks for: versions of a package that the list contains, with some extras of it.
-#[derive(Debug, Drop)]
+#[derive(Drop)]
 pub struct Requirement {
     /// The name, as it is written.
     pub name: String,

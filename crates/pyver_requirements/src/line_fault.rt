@@ -4,7 +4,7 @@ ghost use Rattle.std.specs.List.{prefix_len};
 ghost use Rattle.pyver_requirements.specs.LineKinds.{ends_word, is_conflict_mark, is_mark_byte};
 
 /// Why a line is neither a requirement nor an option.
-#[derive(Clone, Copy, Debug, PartialEq, Eq)]
+#[derive(Clone, Copy, PartialEq, Eq)]
 pub enum LineFault {
     /// An option that pip 26.2 does not know.
     UnknownOption,

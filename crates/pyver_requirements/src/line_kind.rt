@@ -14,7 +14,7 @@ use crate::option_value::{first_value, long_value};
 use crate::physical_line::opens_with_mark;
 
 /// What a logical line is.
-#[derive(Clone, Copy, Debug)]
+#[derive(Clone, Copy)]
 pub enum LineKind<'a> {
     /// `-r FILE` or `--requirement FILE`: another file of requirements, and its path.
     RequirementsFile(&'a [u8]),
@@ -44,11 +44,11 @@ pub(crate) fn opens_with(text: &[u8], byte: u8) -> bool
 }
 
 // The value of the long option, if the text begins with it.
-fn long_option_value<'a>(text: &'a [u8], long: &[u8]) -> Option<&'a [u8]>
+fn long_option_value<'a>(text: &'a [u8], long: &str) -> Option<&'a [u8]>
     ensures { option_map (λ x. x.now) result ≡ long_option_value long.now text.now }
 {
     let count = count_name_bytes(text);
-    if names_option(long, &text[..count]) {
+    if names_option(long.as_bytes(), &text[..count]) {
         Some(long_value(&text[count..]))
     } else {
         None
@@ -56,12 +56,12 @@ fn long_option_value<'a>(text: &'a [u8], long: &[u8]) -> Option<&'a [u8]>
 }
 
 // The value of the option, if the text begins with one of its names.
-fn option_value<'a>(text: &'a [u8], long: &[u8], short: &[u8]) -> Option<&'a [u8]>
+fn option_value<'a>(text: &'a [u8], long: &str, short: &str) -> Option<&'a [u8]>
     ensures { option_map (λ x. x.now) result ≡ option_value long.now short.now text.now }
 {
     if text.starts_with("--".as_bytes()) {
         long_option_value(text, long)
-    } else if text.starts_with(short) {
+    } else if text.starts_with(short.as_bytes()) {
         Some(first_value(trim_blanks(&text[short.len()..])))
     } else {
         None
@@ -72,13 +72,13 @@ fn option_value<'a>(text: &'a [u8], long: &[u8], short: &[u8]) -> Option<&'a [u8
 fn option_kind(text: &[u8]) -> LineKind<'_>
     ensures { line_kind_of result ≡ option_kind text.now }
 {
-    if let Some(path) = option_value(text, "--requirement".as_bytes(), "-r".as_bytes()) {
+    if let Some(path) = option_value(text, "--requirement", "-r") {
         return LineKind::RequirementsFile(path);
     }
-    if let Some(path) = option_value(text, "--constraint".as_bytes(), "-c".as_bytes()) {
+    if let Some(path) = option_value(text, "--constraint", "-c") {
         return LineKind::ConstraintsFile(path);
     }
-    match option_value(text, "--editable".as_bytes(), "-e".as_bytes()) {
+    match option_value(text, "--editable", "-e") {
         Some(_) => LineKind::Editable,
         None => LineKind::PipOption,
     }

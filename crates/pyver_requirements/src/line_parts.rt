@@ -7,7 +7,7 @@ ghost use Rattle.pyver_requirements.specs.LineKinds.{line_parts_of};
 use crate::line_kind::opens_with;
 
 /// The parts of a string that is a requirement.
-#[derive(Clone, Copy, Debug)]
+#[derive(Clone, Copy)]
 pub struct LineParts<'a> {
     /// The string: of a line of a requirements file without its options.
     pub text: &'a [u8],

@@ -8,7 +8,7 @@ use crate::physical_line::{after_mark, opens_with_mark, split_continuation, spli
 use std::alloc::{AllocError, Global};
 
 /// A line of a requirements file: physical lines joined.
-#[derive(Debug, Drop)]
+#[derive(Drop)]
 pub struct LogicalLine {
     /// The number of its first physical line, from 1.
     pub number: u64,

@@ -5,7 +5,7 @@ ghost use Rattle.pyver_requirements.specs.declared.marker_fault.MarkerError.TheV
 use std::alloc::{AllocError, AllocFailed};
 
 /// Why a string is no environment marker.
-#[derive(Clone, Copy, Debug, PartialEq, Eq)]
+#[derive(Clone, Copy, PartialEq, Eq)]
 pub enum MarkerFault {
     /// A variable or a string is missing.
     MissingOperand,
@@ -43,7 +43,7 @@ impl MarkerFault {
 }
 
 /// Why a string is no environment marker, and from which byte on.
-#[derive(Clone, Copy, Debug, PartialEq, Eq)]
+#[derive(Clone, Copy, PartialEq, Eq)]
 pub enum MarkerError {
     /// The string is none, and this is the position, in bytes from 0, from which on it is none.
     Invalid(MarkerFault, usize),

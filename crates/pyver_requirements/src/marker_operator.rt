@@ -3,7 +3,7 @@ ghost use Rattle.std.specs.Prelude.{◌≡◌, codes};
 ghost use Rattle.pyver_requirements.specs.MarkerTerms.{mirrored, marker_operator_text};
 
 /// An operator of an environment marker.
-#[derive(Clone, Copy, Debug, PartialEq, Eq)]
+#[derive(Clone, Copy, PartialEq, Eq)]
 pub enum MarkerOperator {
     Less,
     LessOrEqual,

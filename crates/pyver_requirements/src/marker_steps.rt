@@ -88,82 +88,63 @@ impl<'a> OpenGroups<'a> {
         MarkerError::Invalid(fault, self.length.saturating_sub(left))
     }
 
-    fn open(self, left: usize) -> Result<OpenGroups<'a>, MarkerError>
-        ensures groups { IfOk result (λ s. open_group (open_groups_of self.entry) left ≡ Ok (open_groups_of s)) }
-        ensures fault { IfErr result (IsMarkerFault (open_group (open_groups_of self.entry) left)) }
+    fn open(&mut self, left: usize) -> Result<(), MarkerError>
+        ensures groups { IfOk result (λ _. open_group (open_groups_of self.old) left ≡ Ok (open_groups_of self.new)) }
+        ensures fault { IfErr result (IsMarkerFault (open_group (open_groups_of self.old) left)) }
     {
         if self.outer.len() >= DEEPEST {
             return Err(self.misfit(MarkerFault::TooDeep, left));
         }
-        let mut outer = self.outer;
-        outer.push_front(self.inner)?;
-        Ok(OpenGroups {
-            length: self.length,
-            outer,
-            inner: EMPTY,
-            steps: self.steps,
-            wants_operand: true,
-        })
+        self.outer.push_front(self.inner)?;
+        self.inner = EMPTY;
+        self.wants_operand = true;
+        Ok(())
     }
 
-    // Behind an operand whose steps are the last.
-    fn end_operand(
-        length: usize,
-        outer: VecDeque<Group>,
-        inner: Group,
-        steps: Vec<Step<'a>>,
-    ) -> Result<OpenGroups<'a>, AllocError>
-        ensures { IfOk result (λ s. open_groups_of s ≡ behind_operand length (map group_of outer.items) (group_of inner)
-            (map step_of steps.entry.items)) }
+    // Behind an operand in this group, whose steps are the last.
+    fn end_operand(&mut self, inner: Group) -> Result<(), AllocError>
+        ensures { IfOk result (λ _. open_groups_of self.new ≡ behind_operand self.old.length (map group_of self.old.outer.items) (group_of inner)
+            (map step_of self.old.steps.items)) }
     {
-        let mut steps = steps;
-        push_join_chain(&mut steps, inner)?;
-        Ok(OpenGroups {
-            length,
-            outer,
-            inner: Group {
-                has_alternatives: inner.has_alternatives,
-                has_chain: true,
-            },
-            steps,
-            wants_operand: false,
-        })
-    }
-
-    fn close(self, left: usize) -> Result<OpenGroups<'a>, MarkerError>
-        ensures groups { IfOk result (λ s. close_group (open_groups_of self.entry) (open_groups_of self.entry).outer left ≡ Ok
-            (open_groups_of s)) }
-        ensures fault { IfErr result (IsMarkerFault (close_group (open_groups_of self.entry) (open_groups_of self.entry).outer left)) }
-    {
-        let mut outer = self.outer;
-        let Some(next) = outer.pop_front() else {
-            let position = self.length.saturating_sub(left);
-            return Err(MarkerError::Invalid(MarkerFault::NoConnective, position));
+        push_join_chain(&mut self.steps, inner)?;
+        self.inner = Group {
+            has_alternatives: inner.has_alternatives,
+            has_chain: true,
         };
-        let mut steps = self.steps;
-        push_join_alternatives(&mut steps, self.inner)?;
-        Ok(OpenGroups::end_operand(self.length, outer, next, steps)?)
+        self.wants_operand = false;
+        Ok(())
+    }
+
+    fn close(&mut self, left: usize) -> Result<(), MarkerError>
+        ensures groups { IfOk result (λ _. close_group (open_groups_of self.old) (open_groups_of self.old).outer left ≡ Ok
+            (open_groups_of self.new)) }
+        ensures fault { IfErr result (IsMarkerFault (close_group (open_groups_of self.old) (open_groups_of self.old).outer left)) }
+    {
+        let Some(next) = self.outer.pop_front() else {
+            return Err(self.misfit(MarkerFault::NoConnective, left));
+        };
+        push_join_alternatives(&mut self.steps, self.inner)?;
+        Ok(self.end_operand(next)?)
     }
 
     fn push_comparison(
-        self,
+        &mut self,
         left: Side<'a>,
         operator: MarkerOperator,
         right: Side<'a>,
-    ) -> Result<OpenGroups<'a>, MarkerError>
-        ensures groups { IfOk result (λ s. take_operand (open_groups_of self.entry)
-            (Compares (side_of left.entry) operator (side_of right.entry)) 0 ≡ Ok (open_groups_of s)) }
+    ) -> Result<(), MarkerError>
+        ensures groups { IfOk result (λ _. take_operand (open_groups_of self.old)
+            (Compares (side_of left.entry) operator (side_of right.entry)) 0 ≡ Ok (open_groups_of self.new)) }
         ensures fault { IfErr result (λ e. e ≡ MarkerError.OutOfMemory) }
     {
-        let mut steps = self.steps;
-        steps.push(Step::Compare(left, operator, right))?;
-        Ok(OpenGroups::end_operand(self.length, self.outer, self.inner, steps)?)
+        self.steps.push(Step::Compare(left, operator, right))?;
+        Ok(self.end_operand(self.inner)?)
     }
 
-    fn push_operand(self, token: Token<'a>, left: usize) -> Result<OpenGroups<'a>, MarkerError>
-        ensures groups { IfOk result (λ s. take_operand (open_groups_of self.entry) (token_of token.entry) left
-            ≡ Ok (open_groups_of s)) }
-        ensures fault { IfErr result (IsMarkerFault (take_operand (open_groups_of self.entry) (token_of token.entry) left)) }
+    fn push_operand(&mut self, token: Token<'a>, left: usize) -> Result<(), MarkerError>
+        ensures groups { IfOk result (λ _. take_operand (open_groups_of self.old) (token_of token.entry) left
+            ≡ Ok (open_groups_of self.new)) }
+        ensures fault { IfErr result (IsMarkerFault (take_operand (open_groups_of self.old) (token_of token.entry) left)) }
     {
         match token {
             Token::Open => self.open(left),
@@ -174,45 +155,39 @@ impl<'a> OpenGroups<'a> {
     }
 
     // After `or`.
-    fn part(self) -> Result<OpenGroups<'a>, MarkerError>
-        ensures groups { IfOk result (λ s. take_connective (open_groups_of self.entry) Or 0 ≡ Ok (open_groups_of s)) }
+    fn part(&mut self) -> Result<(), MarkerError>
+        ensures groups { IfOk result (λ _. take_connective (open_groups_of self.old) Or 0 ≡ Ok (open_groups_of self.new)) }
         ensures fault { IfErr result (λ e. e ≡ MarkerError.OutOfMemory) }
     {
-        let mut steps = self.steps;
-        push_join_alternatives(&mut steps, self.inner)?;
-        Ok(OpenGroups {
-            length: self.length,
-            outer: self.outer,
-            inner: Group {
-                has_alternatives: true,
-                has_chain: false,
-            },
-            steps,
-            wants_operand: true,
-        })
+        push_join_alternatives(&mut self.steps, self.inner)?;
+        self.inner = Group {
+            has_alternatives: true,
+            has_chain: false,
+        };
+        self.wants_operand = true;
+        Ok(())
     }
 
-    fn push_connective(self, token: Token<'a>, left: usize) -> Result<OpenGroups<'a>, MarkerError>
-        ensures groups { IfOk result (λ s. take_connective (open_groups_of self.entry) (token_of token.entry) left ≡ Ok
-            (open_groups_of s)) }
-        ensures fault { IfErr result (IsMarkerFault (take_connective (open_groups_of self.entry) (token_of token.entry) left)) }
+    fn push_connective(&mut self, token: Token<'a>, left: usize) -> Result<(), MarkerError>
+        ensures groups { IfOk result (λ _. take_connective (open_groups_of self.old) (token_of token.entry) left ≡ Ok
+            (open_groups_of self.new)) }
+        ensures fault { IfErr result (IsMarkerFault (take_connective (open_groups_of self.old) (token_of token.entry) left)) }
     {
-        let mut groups = self;
         match token {
             Token::And => {
-                groups.wants_operand = true;
-                Ok(groups)
+                self.wants_operand = true;
+                Ok(())
             }
-            Token::Or => groups.part(),
-            Token::Close => groups.close(left),
-            _ => Err(groups.misfit(MarkerFault::NoConnective, left)),
+            Token::Or => self.part(),
+            Token::Close => self.close(left),
+            _ => Err(self.misfit(MarkerFault::NoConnective, left)),
         }
     }
 
-    // The groups after the next token.
-    fn push(self, token: Token<'a>, left: usize) -> Result<OpenGroups<'a>, MarkerError>
-        ensures groups { IfOk result (λ s. take_token (open_groups_of self.entry) (token_of token.entry) left ≡ Ok (open_groups_of s)) }
-        ensures fault { IfErr result (IsMarkerFault (take_token (open_groups_of self.entry) (token_of token.entry) left)) }
+    // Takes the next token; of what it leaves after an error, nothing is read.
+    fn push(&mut self, token: Token<'a>, left: usize) -> Result<(), MarkerError>
+        ensures groups { IfOk result (λ _. take_token (open_groups_of self.old) (token_of token.entry) left ≡ Ok (open_groups_of self.new)) }
+        ensures fault { IfErr result (IsMarkerFault (take_token (open_groups_of self.old) (token_of token.entry) left)) }
     {
         if self.wants_operand {
             self.push_operand(token, left)
@@ -253,7 +228,7 @@ pub fn parse_steps(alloc: Global, text: &[u8]) -> Result<Vec<Step<'_>>, MarkerEr
             skipped -= 1;
         } else if !is_blank_byte(*byte) {
             let rest = &text[at..];
-            groups = groups.push(scan_token(rest), rest.len())?;
+            groups.push(scan_token(rest), rest.len())?;
             skipped = (rest.len() - 1).saturating_sub(behind_token(rest).len());
         }
     }

@@ -83,21 +83,27 @@ fn has_word(text: &[u8], name: &str) -> bool
     scan_word(text) == name.as_bytes()
 }
 
+fn is_text(bytes: &[u8], text: &str) -> bool
+    ensures { result ≡ bytes_eq bytes.now text.now }
+{
+    bytes == text.as_bytes()
+}
+
 // The name that stands for an older one.
 fn modern_name(name: &[u8]) -> &[u8]
     ensures { result.now ≡ modern_name name.now }
 {
-    if name == "os.name".as_bytes() {
+    if is_text(name, "os.name") {
         "os_name".as_bytes()
-    } else if name == "sys.platform".as_bytes() {
+    } else if is_text(name, "sys.platform") {
         "sys_platform".as_bytes()
-    } else if name == "platform.version".as_bytes() {
+    } else if is_text(name, "platform.version") {
         "platform_version".as_bytes()
-    } else if name == "platform.machine".as_bytes() {
+    } else if is_text(name, "platform.machine") {
         "platform_machine".as_bytes()
-    } else if name == "platform.python_implementation".as_bytes() {
+    } else if is_text(name, "platform.python_implementation") {
         "platform_python_implementation".as_bytes()
-    } else if name == "python_implementation".as_bytes() {
+    } else if is_text(name, "python_implementation") {
         "platform_python_implementation".as_bytes()
     } else {
         name
@@ -198,21 +204,21 @@ pub fn starts_with_operator(text: &[u8]) -> bool
 fn find_symbol(bytes: &[u8]) -> Option<MarkerOperator>
     ensures { result ≡ symbol bytes.now }
 {
-    if bytes == "<".as_bytes() {
+    if is_text(bytes, "<") {
         Some(MarkerOperator::Less)
-    } else if bytes == "<=".as_bytes() {
+    } else if is_text(bytes, "<=") {
         Some(MarkerOperator::LessOrEqual)
-    } else if bytes == "!=".as_bytes() {
+    } else if is_text(bytes, "!=") {
         Some(MarkerOperator::NotEqual)
-    } else if bytes == "==".as_bytes() {
+    } else if is_text(bytes, "==") {
         Some(MarkerOperator::Equal)
-    } else if bytes == ">=".as_bytes() {
+    } else if is_text(bytes, ">=") {
         Some(MarkerOperator::GreaterOrEqual)
-    } else if bytes == ">".as_bytes() {
+    } else if is_text(bytes, ">") {
         Some(MarkerOperator::Greater)
-    } else if bytes == "~=".as_bytes() {
+    } else if is_text(bytes, "~=") {
         Some(MarkerOperator::Compatible)
-    } else if bytes == "===".as_bytes() {
+    } else if is_text(bytes, "===") {
         Some(MarkerOperator::Arbitrary)
     } else {
         None
