@@ -98,7 +98,7 @@ impl VersionSet {
         ensures { IfOk result (λ set. (v : Record) → contains record_cmp set v ≡ contains record_cmp self.now v || contains record_cmp other.now v) }
     {
         let without = self.complement(alloc)?;
-        let neither = without.intersection(alloc, &other.complement(alloc)?)?;
+        let neither = without.difference(alloc, other)?;
         let either = neither.complement(alloc)?;
         Ok(either)
     }

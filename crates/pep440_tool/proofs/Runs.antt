@@ -20,7 +20,7 @@ use Rattle.pep440_version.specs.Print.{print}
 use Rattle.pep440_version.specs.Record.{Record}
 use Rattle.pep440_tool.specs.Answers.{line, RejectsFirst, ToolAnswer, shown, RangeAnswer, edited_answer, line_fault_text, range_answer, memory_text}
 use Rattle.pep440_tool.specs.Lines.{LineDenotes, ShowsContained, numbered_lines, RejectsLine, numbered_from}
-use Rattle.pep440_tool.specs.Picks.{CandidateDenotes, PickAnswer, is_of_list, shown_requirement_error}
+use Rattle.pep440_tool.specs.Picks.{CandidateDenotes, PickAnswer, PrintsNewest, is_of_list, shown_requirement_error}
 use Rattle.pep440_version.proofs.ChangeWords.Items.{rest_is}
 use Rattle.std.specs.Str.{IsUtf8}
 use Rattle.pep440_pick.specs.Requirements.{requirement_rejection_text, requirement_rejection_of}
@@ -120,15 +120,18 @@ lists_append name xs x = ap (map (λ (n : Needed). n.specifiers)) (filter-append
     ∙ map-append (λ (n : Needed). n.specifiers) (filter (λ (n : Needed). same_name n.name name) xs) (filter (λ (n : Needed). same_name n.name name) (x ∷ []))
 
 -- the newest is shown by its place
-pub picked : (name : List ℕ) (texts : List (List ℕ)) (input : List ℕ) (versions given : List Record) (lists held : List (List Spec)) (position : ℕ) (v : Record) (t : List ℕ) (a : ToolAnswer)
-    → is_name name ≡ true → AllZip CandidateDenotes (enumerate_from 1 texts) versions → (found : List Needed) × AllZip (LineDenotes DerivesRequirement) (numbered_lines input) found × (lists ≡ lists_of name found)
-    → held ≡ lists → given ≡ versions → Newest held given (Some position) → position < length given → v ≡ get_or versions position v → t ≡ print v → a ≡ shown t → PickAnswer name texts input a
-picked name texts input versions given lists held position v t a valid_name means k held_is given_is newest inside is text is_answer =
-    let within : position < length versions = subst (λ (g : List Record). position < length g) given_is inside in
-    let by_name : Newest (lists_of name k.0) versions (Some position) =
-    subst (λ (l : List (List Spec)). Newest l versions (Some position)) (held_is ∙ k.2) (subst (λ (g : List Record). Newest held g (Some position)) given_is newest) in
-    let shows : slice_get versions position ≡ Some v = slice_get_read versions (length versions) position v refl within is in
-    inr (valid_name, inl (versions, means, inl (k.0, k.1, (Some position, by_name, is_answer ∙ ap shown (text ∙ ap (λ (o : Option Record). option_map_or print o (codes "none")) (sym shows))))))
+pub shown_at : (lists : List (List Spec)) (versions : List Record) (position : ℕ) (v : Record) (t : List ℕ) (a : ToolAnswer) → Newest lists versions (Some position) → position < length versions → v ≡ get_or versions position v → t ≡ print v
+    → a ≡ shown t → PrintsNewest lists versions a
+shown_at lists versions position v t a newest inside is text is_answer =
+    let shows : slice_get versions position ≡ Some v = slice_get_read versions (length versions) position v refl inside is in
+    (Some position, newest, is_answer ∙ ap shown (text ∙ ap (λ (o : Option Record). option_map_or print o (codes "none")) (sym shows)))
+
+-- the newest is shown of the candidates and the lists that were read
+pub picked : (name : List ℕ) (texts : List (List ℕ)) (input : List ℕ) (versions given : List Record) (lists held : List (List Spec)) (a : ToolAnswer) → is_name name ≡ true → AllZip CandidateDenotes (enumerate_from 1 texts) versions
+    → (found : List Needed) × AllZip (LineDenotes DerivesRequirement) (numbered_lines input) found × (lists ≡ lists_of name found) → held ≡ lists → given ≡ versions → PrintsNewest held given a → PickAnswer name texts input a
+picked name texts input versions given lists held a valid_name means k held_is given_is prints =
+    let by_name = subst (λ (l : List (List Spec)). PrintsNewest l given a) (held_is ∙ k.2) prints in
+    inr (valid_name, inl (versions, means, inl (k.0, k.1, subst (λ (g : List Record). PrintsNewest (lists_of name k.0) g a) given_is by_name)))
 
 -- ---- texts that are rejected, by the errors of their readers that say why
 

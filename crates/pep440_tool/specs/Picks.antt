@@ -7,6 +7,7 @@ use Rattle.pep440_pick.specs.Names.{is_name}
 use Rattle.pep440_pick.specs.Newest.{Newest}
 use Rattle.pep440_pick.specs.RequirementGrammar.{DerivesRequirement, Needed, RejectsRequirement, RequirementRejection, Specifiers}
 use Rattle.pep440_pick.specs.Requirements.{requirement_rejection_text}
+use Rattle.pep440_rs.specs.Specifiers.{Spec}
 use Rattle.pep440_version.specs.ErrorTexts.{rejection_text}
 use Rattle.pep440_version.specs.Grammar.{Derives}
 use Rattle.pep440_version.specs.Print.{print}
@@ -42,9 +43,13 @@ shown_requirement_error number f = let text = line_fault_text number (requiremen
 abbrev pub newest_text : List Record → Option ℕ → List ℕ
 newest_text candidates position = option_map_or print (option_and_then (slice_get candidates) position) (codes "none")
 
+-- the answer is the newest candidate by the lists
+abbrev pub PrintsNewest : List (List Spec) → List Record → ToolAnswer → Type 0
+PrintsNewest lists candidates a = (position : Option ℕ) × Newest lists candidates position × (a ≡ shown (newest_text candidates position))
+
 -- the answer is the newest candidate by the lists of the lines of that name
 abbrev pub ShowsNewest : List ℕ → List Record → List Needed → ToolAnswer → Type 0
-ShowsNewest name candidates found a = (position : Option ℕ) × Newest (lists_of name found) candidates position × (a ≡ shown (newest_text candidates position))
+ShowsNewest name candidates found = PrintsNewest (lists_of name found) candidates
 
 -- `pick NAME V..`: NAME is checked, then the candidates are parsed, and then the lines of the input
 abbrev pub PickAnswer : List ℕ → List (List ℕ) → List ℕ → ToolAnswer → Type 0

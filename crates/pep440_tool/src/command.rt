@@ -15,7 +15,7 @@ use crate::show_version::show_version;
 use std::alloc::{AllocError, Global};
 
 /// What words ask for.
-#[derive(Clone, Copy, Debug)]
+#[derive(Clone, Copy)]
 pub enum Command<'a> {
     Show(&'a str),
     Compare(&'a str, &'a str),

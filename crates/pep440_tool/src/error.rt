@@ -12,7 +12,7 @@ use std::alloc::{AllocError, AllocFailed};
 use std::fmt;
 
 // Why a command prints no result. Words and lines are numbered from 1.
-#[derive(Debug, Drop)]
+#[derive(Drop)]
 pub(crate) enum CommandError {
     // A word is no version.
     Version(VersionParseError),
@@ -89,17 +89,17 @@ impl fmt::Display for CommandError {
 
     fn fmt<W: fmt::Write>(&self, f: &mut fmt::Formatter<W>) -> fmt::Result {
         match self {
-            CommandError::Version(error) => write!(f, "{error}"),
-            CommandError::List(error) => write!(f, "{error}"),
+            CommandError::Version(error) => fmt::Display::fmt(error, f),
+            CommandError::List(error) => fmt::Display::fmt(error, f),
             CommandError::NotAChange(number) => write!(f, "change {number}: not a change"),
-            CommandError::Change(error) => write!(f, "{error}"),
-            CommandError::Range(error) => write!(f, "{error}"),
-            CommandError::Name => write!(f, "name: not a valid name"),
+            CommandError::Change(error) => fmt::Display::fmt(error, f),
+            CommandError::Range(error) => fmt::Display::fmt(error, f),
+            CommandError::Name => f.write_str("name: not a valid name"),
             CommandError::Candidate(number, error) => write!(f, "candidate {number}: {error}"),
             CommandError::NotUtf8(number) => write!(f, "line {number}: not UTF-8"),
             CommandError::Line(number, error) => write!(f, "line {number}: {error}"),
             CommandError::Requirement(number, error) => write!(f, "line {number}: {error}"),
-            CommandError::OutOfMemory => write!(f, "out of memory"),
+            CommandError::OutOfMemory => f.write_str("out of memory"),
         }
     }
 }

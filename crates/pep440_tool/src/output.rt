@@ -8,7 +8,7 @@ use crate::error::CommandError;
 use std::alloc::{AllocError, Global};
 
 /// What the program writes, and the status that it ends with.
-#[derive(Debug, Drop)]
+#[derive(Drop)]
 pub struct Answer {
     pub output: Vec<u8>,
     pub status: u8,
@@ -47,8 +47,7 @@ impl Answer {
         if error.is_out_of_memory() {
             return Err(AllocError);
         }
-        let mut output = Vec::from_slice(alloc, b"error: ")?;
-        output.extend_from_slice(error.to_string(alloc)?.as_bytes())?;
+        let mut output = format!(in alloc; "error: {error}")?.into_bytes();
         if !error.ends_lines() {
             output.push(b'\n')?;
         }

@@ -6,8 +6,8 @@ ghost use Rattle.pep440_pick.specs.RequirementGrammar.{DerivesRequirement, Neede
 ghost use Rattle.pep440_tool.specs.Answers.{RejectsFirst};
 ghost use Rattle.pep440_tool.specs.CommandErrors.{HoldsOrPrints};
 ghost use Rattle.pep440_tool.specs.Lines.{LineDenotes, RejectsLine, numbered_lines};
-ghost use Rattle.pep440_tool.specs.Picks.{CandidateDenotes, PickAnswer, RejectsCandidate, shown_requirement_error};
-ghost use Rattle.pep440_tool.specs.AnswerValues.{HoldsOfAnswer};
+ghost use Rattle.pep440_tool.specs.Picks.{CandidateDenotes, PickAnswer, PrintsNewest, RejectsCandidate, shown_requirement_error};
+ghost use Rattle.pep440_tool.specs.AnswerValues.{HoldsOfAnswer, answer_value};
 
 use crate::error::CommandError;
 use crate::input_lines::{Line, Lines};
@@ -89,6 +89,20 @@ fn parse_lists(
     Ok(lists)
 }
 
+// The newest of the versions that the lists contain, or `none`, as a line.
+fn print_newest(
+    alloc: Global,
+    lists: &[VersionSpecifiers],
+    versions: &[Version],
+) -> Result<Answer, AllocError>
+    ensures { IfOk result (λ a. PrintsNewest lists.now versions.now (answer_value a)) }
+{
+    match newest(alloc, lists, versions)? {
+        Some(position) => Answer::from_line(alloc, versions[position].to_string(alloc)?.as_str()),
+        None => Answer::from_line(alloc, "none"),
+    }
+}
+
 // `pick NAME V..`: the newest of the candidates, by the lists of the lines whose name is NAME.
 pub(crate) fn pick(
     alloc: Global,
@@ -103,11 +117,5 @@ pub(crate) fn pick(
     }
     let versions = parse_candidates(alloc, candidates)?;
     let lists = parse_lists(alloc, name, input)?;
-    match newest(alloc, lists.as_slice(), versions.as_slice())? {
-        Some(position) => {
-            let print = versions[position].to_string(alloc)?;
-            Ok(Answer::from_line(alloc, print.as_str())?)
-        }
-        None => Ok(Answer::from_line(alloc, "none")?),
-    }
+    Ok(print_newest(alloc, lists.as_slice(), versions.as_slice())?)
 }

@@ -16,9 +16,7 @@ returns-in_err-lists c =
     (λ a h. inr (sym c.is_name.ensures ∙ c.if-not-is_name.false, inl (c.in_ok-versions.versions.items, c.in_ok-versions.ensures, inr h))) c.in_err-lists.field-0.0 c.in_err-lists.ensures
     c.from_residual-in_err-lists.result c.from_residual-in_err-lists.ensures.1
 
-pub returns-in-Some : goal.returns-in-Some
-returns-in-Some c =
-    picked c.args.name.now (map string_bytes c.args.candidates.now) c.args.input.now c.in_ok-versions.versions.items c.as_slice-2.result.now c.in_ok-lists.lists.items c.as_slice.result.now c.in-Some.position
-    c.index.result.now c.as_str.result.now (answer_value c.in_ok-from_line-in-Some.field-0) (sym c.is_name.ensures ∙ c.if-not-is_name.false) c.in_ok-versions.ensures c.in_ok-lists.ensures
-    c.as_slice.ensures.value c.as_slice-2.ensures.value (rw c.in-Some.is at c.in_ok-position.ensures.newest) (rw c.in-Some.is at c.in_ok-position.ensures.inside) c.index.ensures
-    (c.as_str.ensures.value ∙ c.in_ok-print-in-Some.ensures.ok) c.in_ok-from_line-in-Some.ensures
+pub returns : goal.returns
+returns c =
+    picked c.args.name.now (map string_bytes c.args.candidates.now) c.args.input.now c.in_ok-versions.versions.items c.as_slice-2.result.now c.in_ok-lists.lists.items c.as_slice.result.now (answer_value c.in_ok-print_newest.field-0)
+    (sym c.is_name.ensures ∙ c.if-not-is_name.false) c.in_ok-versions.ensures c.in_ok-lists.ensures c.as_slice.ensures.value c.as_slice-2.ensures.value c.in_ok-print_newest.ensures

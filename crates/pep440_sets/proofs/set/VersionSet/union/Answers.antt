@@ -11,5 +11,5 @@ either false false = refl
 pub returns : goal.returns
 returns c v =
     c.in_ok-either.ensures v
-    ∙ ap not (c.in_ok-neither.ensures v ∙ (λ i. c.in_ok-without.ensures v i && c.in_ok-complement.ensures v i))
+    ∙ ap not (c.in_ok-neither.ensures v ∙ (λ i. c.in_ok-without.ensures v i && not (contains record_cmp c.args.other.now v)))
     ∙ either (contains record_cmp c.args.self.now v) (contains record_cmp c.args.other.now v)
