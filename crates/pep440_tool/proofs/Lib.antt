@@ -1,2 +1,4 @@
-pub mod Runs
+pub mod Each
 pub mod OneAnswer
+pub mod Rejected
+pub mod RunEnds

@@ -11,8 +11,8 @@ use Rattle.pyver_commands.specs.Outcomes.{fault, in_turn, message_outcome}
 use Rattle.pyver_commands.specs.Readings.{Denotes, Fails, Reading, Reads}
 use Rattle.pyver_commands.specs.declared.allowed.MatchOptions.{MatchOptions}
 use Rattle.pep440_rs.specs.Prereleases.{requests_prereleases}
-use Rattle.pyver_commands.specs.declared.specifiers.Prereleases.{Prereleases}
-use Rattle.pyver_commands.specs.declared.specifiers.Prereleases.TheVariants as prereleases
+use Rattle.pyver_commands.specs.declared.prerelease_rule.Prereleases.{Prereleases}
+use Rattle.pyver_commands.specs.declared.prerelease_rule.Prereleases.TheVariants as prereleases
 
 -- as the options say; without such an option, if the list asks for them
 abbrev pub takes_prereleases : Prereleases → List Spec → Bool

@@ -12,8 +12,8 @@ use Rattle.pyver_commands.specs.Sources.{Input}
 use Rattle.pyver_commands.specs.Sources.VersionLines.{InputParts, OfVersions, VersionLine}
 use Rattle.pyver_commands.specs.declared.newest.NewestOptions.{NewestOptions}
 use Rattle.pyver_commands.specs.declared.newest.NewestRule.{NewestRule}
-use Rattle.pyver_commands.specs.declared.specifiers.Prereleases.{Prereleases}
-use Rattle.pyver_commands.specs.declared.specifiers.Prereleases.TheVariants as prereleases
+use Rattle.pyver_commands.specs.declared.prerelease_rule.Prereleases.{Prereleases}
+use Rattle.pyver_commands.specs.declared.prerelease_rule.Prereleases.TheVariants as prereleases
 
 -- the line itself, whose version the list matches
 abbrev pub IsMatchedLine : List Spec → VersionLine → VersionLine → Type 0

@@ -5,10 +5,9 @@ ghost use Rattle.pyver_commands.specs.Matches.{Matches, MatchesWords, verdict, w
 ghost use Rattle.pyver_commands.specs.Outcomes.{followed_by};
 
 use crate::answer::Answer;
+use crate::prerelease_rule::{Prereleases, takes_prereleases};
 use crate::reading::{Reading, parse_version};
-use crate::specifiers::{
-    Prereleases, SpecifiersReading, parse_specifiers, report_list_fault, takes_prereleases,
-};
+use crate::specifiers::{SpecifiersReading, parse_specifiers, report_list_fault};
 use cli_io::push_escaped;
 use pep440_rs::VersionSpecifiers;
 use std::alloc::{AllocError, Global};

@@ -5,12 +5,12 @@ ghost use Rattle.pyver_commands.specs.Sources.{unopened_message, unopened_status
 ghost use Rattle.pyver_commands.specs.Sources.SourceViews.{unopened_of};
 
 use crate::newest_lines::{KeptLine, keep_newer};
+use crate::prerelease_rule::Prereleases;
 use crate::reading::Reading;
 use crate::sources::line_options::LineOptions;
 use crate::sources::open_failure::{UnopenedSource, push_file_fault};
 use crate::sources::origin::Origin;
 use crate::sources::source_lines::{is_blank, line_text, parse_line};
-use crate::specifiers::Prereleases;
 use pep440_rs::{Version, VersionSpecifiers};
 use std::alloc::{AllocError, Global};
 

@@ -18,6 +18,7 @@ pub mod laws;
 mod newest;
 mod newest_lines;
 mod part;
+mod prerelease_rule;
 mod range_json;
 mod reading;
 mod show;
@@ -26,6 +27,7 @@ mod sources;
 mod specifiers;
 mod version_json;
 mod whole_input;
+mod word_number;
 
 pub use allowed::{MatchOptions, match_versions};
 pub use answer::Answer;
@@ -37,7 +39,7 @@ pub use extent::find_extent;
 pub use filter::{FilterOptions, FilterRule, Selection};
 pub use newest::{NewestOptions, NewestRule};
 pub use part::{VersionPart, parse_part};
-pub use reading::parse_number;
+pub use prerelease_rule::{Prereleases, takes_prereleases};
 pub use show::{ShowFormat, show_versions};
 pub use sort::SortOptions;
 pub use sources::files::{Files, find_output, report_output};
@@ -47,7 +49,6 @@ pub use sources::open_failure::OpenFailure;
 pub use sources::origin::is_input;
 pub use sources::source_texts::read_by_name;
 pub use sources::stream::RunFailure;
-pub use specifiers::{
-    Prereleases, SpecifiersReading, parse_specifiers, report_list_fault, takes_prereleases,
-};
+pub use specifiers::{SpecifiersReading, parse_specifiers, report_list_fault};
 pub use whole_input::{LinesQuestion, Question, answer_input};
+pub use word_number::parse_number;

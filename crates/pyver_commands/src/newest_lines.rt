@@ -7,7 +7,7 @@ ghost use Rattle.pyver_commands.specs.NewestOutcomes.{taken, without_prerelease}
 ghost use Rattle.pyver_commands.specs.AnswerViews.{KeepsNewest, kept_line};
 ghost use Rattle.pyver_commands.specs.Sources.VersionLines.{VersionLine};
 
-use crate::specifiers::Prereleases;
+use crate::prerelease_rule::Prereleases;
 use pep440_pick::is_preferred;
 use pep440_rs::{Version, VersionSpecifiers};
 use std::alloc::{AllocError, Global};

@@ -1,7 +1,7 @@
-//! Words and lines read as versions, and words as numbers.
-ghost use Rattle.std.specs.Prelude.{◌≡◌, IfOk};
+//! Words and lines read as versions.
+ghost use Rattle.std.specs.Prelude.{IfOk};
 ghost use Rattle.pyver_commands.specs.AnswerViews.{reading_of};
-ghost use Rattle.pyver_commands.specs.Readings.{Reads, are_digits, word_number};
+ghost use Rattle.pyver_commands.specs.Readings.{Reads};
 
 use pep440_rs::Version;
 use std::alloc::{AllocError, Global};
@@ -27,21 +27,4 @@ pub(crate) fn parse_version(alloc: Global, text: &str) -> Result<Reading, AllocE
             Ok(Reading::Invalid(error.to_string(alloc)?))
         }
     }
-}
-
-fn is_digits(text: &str) -> bool
-    ensures { result ≡ are_digits text.now }
-{
-    let bytes = text.as_bytes();
-    !bytes.is_empty() && bytes.iter().all(|byte| byte.is_ascii_digit())
-}
-
-/// One or more digits, zeros may lead, whose value fits.
-pub fn parse_number(text: &str) -> Option<u64>
-    ensures { result ≡ word_number text.now }
-{
-    if !is_digits(text) {
-        return None;
-    }
-    text.parse::<u64>().ok()
 }

@@ -1,7 +1,7 @@
-//! Lists of specifiers among the words, and which pre-releases they allow (PEP 440, "Handling of pre-releases").
+//! Lists of specifiers among the words.
 ghost use Rattle.std.specs.Prelude.{◌≡◌, ◌++◌, IfOk, drop};
 ghost use Rattle.pyver_commands.specs.AnswerViews.{outcome_of, specifiers_reading_of};
-ghost use Rattle.pyver_commands.specs.Matches.{ReadsSpecifiers, list_fault, list_message, place_message, takes_prereleases};
+ghost use Rattle.pyver_commands.specs.Matches.{ReadsSpecifiers, list_fault, list_message, place_message};
 
 use crate::answer::Answer;
 use cli_io::{push_escaped, push_escaped_lines};
@@ -80,24 +80,4 @@ pub fn report_list_fault(
     push_list_message(&mut answer.errors, word, message)?;
     push_place(&mut answer.errors, usage)?;
     Ok(answer)
-}
-
-/// Which pre-releases are taken.
-#[derive(Clone, Copy)]
-pub enum Prereleases {
-    /// Those that a specifier asks for.
-    Listed,
-    Always,
-    Never,
-}
-
-/// Whether pre-releases are taken by the list.
-pub fn takes_prereleases(prereleases: Prereleases, list: &VersionSpecifiers) -> bool
-    ensures { result ≡ takes_prereleases prereleases list.now }
-{
-    match prereleases {
-        Prereleases::Listed => list.requests_prereleases(),
-        Prereleases::Always => true,
-        Prereleases::Never => false,
-    }
 }

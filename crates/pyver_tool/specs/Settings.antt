@@ -8,7 +8,7 @@ use Rattle.pyver_commands.specs.Readings.{word_number}
 use Rattle.pyver_commands.specs.Parts.{part_of}
 use Rattle.pyver_tool.specs.declared.settings.OutputForm.TheVariants as output_form
 use Rattle.pyver_commands.specs.declared.sources.line_options.LineOptions.{LineOptions}
-use Rattle.pyver_commands.specs.declared.specifiers.Prereleases.TheVariants as prereleases
+use Rattle.pyver_commands.specs.declared.prerelease_rule.Prereleases.TheVariants as prereleases
 use Rattle.pyver_tool.specs.declared.settings.Settings.{Settings}
 use Rattle.pyver_commands.specs.declared.show.ShowFormat.TheVariants as format
 use Rattle.pyver_tool.specs.declared.settings.OutputForm.{OutputForm}

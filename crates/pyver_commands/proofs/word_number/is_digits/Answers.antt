@@ -3,7 +3,7 @@ use Rattle.std.specs.Char.{is_ascii_digit}
 use Rattle.std.proofs.lemmas.Iterator.{YieldsList-from_slice}
 use Rattle.std.proofs.lemmas.Iterator.Search.{all_from_yields_List}
 use Rattle.std.proofs.lemmas.Bool.Decides.{nat_tests}
-use Rattle.pyver_commands.proofs.reading.is_digits.Goals as goal
+use Rattle.pyver_commands.proofs.word_number.is_digits.Goals as goal
 
 pub returns-then-not-is_empty : goal.returns-then-not-is_empty
 returns-then-not-is_empty c =
