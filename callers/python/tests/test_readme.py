@@ -43,6 +43,7 @@ print(json.dumps([shown(text) for text in json.load(sys.stdin)]))
 """
 # Rows that the README leaves out.
 MORE = [
+    ('Specifier("===1.0").contains("v1.0")', 'True', 'False'),
     ('SpecifierSet(">=1").prereleases', 'False', 'None'),
     ('Specifier("<1.post1").contains("1a1", True)', 'False', 'True'),
     ('SpecifierSet("").contains("x")', 'InvalidVersion', 'True'),
