@@ -180,7 +180,8 @@ PEP440_INLINE uint8_t pep440_list_error(const uint8_t *list, size_t length, uint
 }
 
 /* Writes to `order` whether the left version is below the right one (-1), equal to it (0) or above
-   it (1). PEP440_INVALID_RIGHT if only the right one is invalid. */
+   it (1). PEP440_INVALID_RIGHT if only the right one is invalid. Compiled bytes are read as they lie,
+   also beside a string: changed ones may give any order (below). */
 uint8_t pep440_compare(const uint8_t *left, size_t left_length, const uint8_t *right,
                        size_t right_length, int8_t *order);
 
@@ -244,7 +245,7 @@ uint8_t pep440_requests_prereleases(const uint8_t *list, size_t length, uint8_t 
    PEP440_NO_ROOM means that there is a version, and PEP440_OK that there is none. It is the least
    one if there is a least, pre-releases and local versions among them: `0.dev0` of the empty list.
    To know whether two lists have a version in common, join their strings with a comma (if one is
-   empty, ask the other). */
+   empty, ask the other). PEP440_NO_LIST of a set by itself (below). */
 uint8_t pep440_version_in(const uint8_t *list, size_t length, uint8_t *out, size_t size,
                           size_t *written);
 
@@ -403,7 +404,7 @@ uint8_t pep440_release_range_bounds(const uint8_t *list, size_t length, uint8_t 
    call tests a set by itself: make it anew of lists. */
 
 /* How many bytes suffice, by the length of a string: for the normal form of a version, for its sort
-   key, and for its compiled form. */
+   key, and for its compiled form. A list's may be longer: ask for it, as said above. */
 #define PEP440_NORMAL_BOUND(length) (9 + (size_t)(length))
 #define PEP440_SORT_KEY_BOUND(length) (7 + 3 * (size_t)(length) / 2)
 #define PEP440_COMPILED_BOUND(length) (10 + 3 * (size_t)(length))
@@ -457,7 +458,7 @@ enum {
 
 /* Writes a mark for each string, in order: whether the list matches its version, and whether this
    is then a pre-release or a developmental release, or that it is no version. PEP440_NO_ROOM if
-   `size` is less than `count`; then nothing is written. */
+   `size` is less than `count`; then nothing is written. PEP440_NO_LIST of a set by itself. */
 uint8_t pep440_filter(const uint8_t *list, size_t list_length, const pep440_string *strings,
                       size_t count, uint8_t *marks, size_t size);
 
@@ -465,7 +466,8 @@ uint8_t pep440_filter(const uint8_t *list, size_t list_length, const pep440_stri
    ones the first. Strings that are no version are passed over. Pre-releases and developmental
    releases count only if the list asks for them, as for pep440_allows, or matches nothing else of
    the batch (PEP 440, "Handling of pre-releases"). PEP440_NONE_FOUND if it matches nothing at
-   all; then nothing is written. Whatever `count`, it allocates for the list and two versions. */
+   all; then nothing is written. Whatever `count`, it allocates for the list and two versions.
+   PEP440_NO_LIST of a set by itself. */
 uint8_t pep440_newest(const uint8_t *list, size_t list_length, const pep440_string *strings,
                       size_t count, size_t *index);
 

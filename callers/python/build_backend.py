@@ -9,7 +9,8 @@ The wheel has the static library in it, and brings both programs as commands; of
 
 CC and CFLAGS in the environment are the C compiler (cc) and what else it is to be passed, and _PYTHON_HOST_PLATFORM=linux-aarch64 is Python's
 word for another machine than this. The source archive has the sources of the package, and the proved library and the objects of both programs for
-each machine for which they are built, each where it lies in the repository: it wants a C compiler and Python's headers alone.
+each machine for which they are built, each where it lies in the repository: it wants a C compiler and Python's headers alone. Of a library that
+PEP440_ARCHIVES names or pkg-config finds it has a copy there; without objects, as where PEP440_PROGRAMS is set, whoever builds it sets PEP440_PROGRAMS too.
 """
 import atexit
 import base64
@@ -278,14 +279,32 @@ def build_editable(wheel_directory, config_settings=None, metadata_directory=Non
     return write_wheel(wheel_directory, *contents(*links()))
 
 
+def libraries_brought():
+    """The library that the source archive has for each machine, by its name there: for this one what PEP440_ARCHIVES names."""
+    brought = {str(path.relative_to(TOP)): path for path in built_libraries()}
+    if os.environ.get("PEP440_ARCHIVES") or not brought:
+        library, *more = archives()
+        if more:
+            stop(f"the source archive takes one library, and PEP440_ARCHIVES names {len(more)} more")
+        brought[f"crates/pep440_c/out/{MACHINE}/libpep440_c.a"] = library
+    return brought
+
+
+def objects():
+    """Those of both programs for each machine for which they are built; none is needed where PEP440_PROGRAMS is set."""
+    if "PEP440_PROGRAMS" not in os.environ and not all(proved(name, f"{name}.o") for name in PROGRAMS):
+        missing("objects of the programs", "PEP440_PROGRAMS", "both programs, with a colon between them, or nothing for none, here and where the archive is built")
+    return [path for name in PROGRAMS for path in sorted(CRATES.glob(f"{name}/out/*/{name}.o"))]
+
+
 def sources():
     """The files of the source archive, by their names in it."""
     folders = [HERE, HERE / "src" / PACKAGE, HERE / "tests"]
     kinds = (".py", ".pyi", ".typed", ".c", ".h", ".md")
     paths = [path for folder in folders for path in sorted(folder.iterdir()) if path.suffix in kinds]
-    paths += [TOP / "pyproject.toml", HEADER, RUNTIME, *LICENCES.values()]
-    paths += [*built_libraries(), *(path for name in PROGRAMS for path in sorted(CRATES.glob(f"{name}/out/*/{name}.o")))]
-    return {str(path.relative_to(TOP)): path.read_bytes() for path in paths} | {"PKG-INFO": metadata("")["METADATA"].encode()}
+    paths += [TOP / "pyproject.toml", HEADER, RUNTIME, *LICENCES.values(), *objects()]
+    files = {str(path.relative_to(TOP)): path for path in paths} | libraries_brought()
+    return {name: path.read_bytes() for name, path in files.items()} | {"PKG-INFO": metadata("")["METADATA"].encode()}
 
 
 def build_sdist(sdist_directory, config_settings=None):

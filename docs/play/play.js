@@ -276,10 +276,10 @@ $('more').addEventListener('click', guarded(showMore));
 $('rows').addEventListener('click', goToLine);
 addEventListener('hashchange', guarded(readAddress));
 guarded(readAddress)();
-// The width is read here alone: in an update it would cost a layout.
+// The width is read here alone: in an update it would cost a layout. To draw at once could change the height that is being observed, an error for the browser.
 new ResizeObserver(([entry]) => {
   if (entry.contentRect.width === width) return;
   width = entry.contentRect.width;
-  guarded(showLine)();
+  requestAnimationFrame(guarded(showLine));
 }).observe($('line'));
 performance.mark('ready');

@@ -359,6 +359,16 @@ class Tests:
                 assert self.run(CONTRAST) == [], (look, words, self.run(CONTRAST))
         self.shot("dark")
 
+    def test_turned(self):
+        narrow = 390 if isinstance(self.browser, Chromium) else 500
+        self.open(">=2.0, !=2.5.1", "<2.6, !=2.1.*", look=(1280, 900, False))
+        self.run("window.told = []; addEventListener('error', ({ message }) => told.push(message))")
+        for width, height in [(narrow, 844), (1280, 900)] * 3:
+            self.looks = (width, height, False)
+            self.browser.look(*self.looks)
+            self.wait(lambda: self.run("const it = document.querySelector('svg'); return it.clientWidth === it.viewBox.baseVal.width && it.clientWidth <= innerWidth"))
+            assert self.run("return [told, document.getElementById('broken').hidden]") == [[], True], (width, self.run("return told"), self.text("broken"))
+
     def test_accessible(self):
         self.open(">=2.0,=>", None, "1 x")
         fields = {"#a": "Specifiers", "#b": "Second list (optional: both must allow a version)", "#v": "Versions, one a line"}

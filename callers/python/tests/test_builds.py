@@ -16,8 +16,9 @@ import pep440_rattle
 HERE = pathlib.Path(__file__).resolve().parent.parent
 BUILD = "import os, pathlib, sys, sysconfig; sys.path.insert(0, sys.argv[1]); import build_backend as it; "
 
-# As in a source archive, on a machine where nothing is installed.
-WITHOUT_TOOLCHAIN = "it.CRATES = pathlib.Path('/nowhere'); it.shutil.which = lambda name: '' if name in ('rt', 'pkg-config') else name"
+# On a machine where nothing is installed; and where nothing lies beside the sources either.
+WITHOUT_TOOLCHAIN = "it.shutil.which = lambda name: '' if name in ('rt', 'pkg-config') else name"
+WITH_NOTHING = f"{WITHOUT_TOOLCHAIN}; it.CRATES = pathlib.Path('/nowhere')"
 
 
 def run(program, *words, **environment):
@@ -26,9 +27,9 @@ def run(program, *words, **environment):
 
 
 class Missing(unittest.TestCase):
-    def said(self, program="pass", **environment):
+    def said(self, program="pass", hook="build_wheel", **environment):
         with tempfile.TemporaryDirectory() as work:
-            ran = run(f"{BUILD}{program}; it.build_wheel(sys.argv[2])", HERE, work, **environment)
+            ran = run(f"{BUILD}{program}; it.{hook}(sys.argv[2])", HERE, work, **environment)
         self.assertEqual((ran.returncode, ran.stderr.count("\n")), (1, 1), ran.stderr)
         return ran.stderr
 
@@ -46,15 +47,24 @@ class Missing(unittest.TestCase):
 
     def test_library(self):
         self.assertIn("pep440_rattle: /nowhere/libpep440.a is not there, which PEP440_ARCHIVES names", self.said(PEP440_ARCHIVES="/nowhere/libpep440.a"))
-        said = self.said(f"{WITHOUT_TOOLCHAIN}; it.MACHINE = 'riscv64'", PEP440_ARCHIVES="")
-        self.assertIn("no library for riscv64: let PEP440_ARCHIVES name lib/libpep440.a of the release's", said)
+        for hook in ("build_wheel", "build_sdist"):
+            said = self.said(f"{WITH_NOTHING}; it.MACHINE = 'riscv64'", hook, PEP440_ARCHIVES="")
+            self.assertIn("no library for riscv64: let PEP440_ARCHIVES name lib/libpep440.a of the release's", said)
+        said = self.said(hook="build_sdist", PEP440_ARCHIVES=f"{sys.executable}:{sys.executable}")
+        self.assertIn("the source archive takes one library, and PEP440_ARCHIVES names 1 more", said)
 
     def test_programs(self):
-        program = f"{WITHOUT_TOOLCHAIN}; del os.environ['PEP440_PROGRAMS']"
+        program = f"{WITH_NOTHING}; del os.environ['PEP440_PROGRAMS']"
         said = self.said(program, PEP440_ARCHIVES=sys.executable)
         self.assertIn("no programs: let PEP440_PROGRAMS name pep440 and pyver of the release's programs archive", said)
+        said = self.said(program, "build_sdist", PEP440_ARCHIVES=sys.executable)
+        self.assertIn("no objects of the programs: let PEP440_PROGRAMS name both programs", said)
         said = self.said(PEP440_ARCHIVES=sys.executable, PEP440_PROGRAMS="/nowhere/pep440:/nowhere/pyver")
         self.assertIn("pep440_rattle: /nowhere/pep440 is not there, which PEP440_PROGRAMS names", said)
+
+    def test_commands(self):
+        ran = run("import runpy, sysconfig; sysconfig.get_path = lambda *_, **__: '/nowhere'; runpy.run_module('pep440_rattle', run_name='__main__')")
+        self.assertEqual(ran.stderr, "pep440_rattle: there is no pyver here: the wheel was made without programs, or they were removed\n")
 
 
 class Made(unittest.TestCase):
@@ -71,9 +81,8 @@ class Made(unittest.TestCase):
         (self.sources,) = (each / "callers/python" for each in self.work.iterdir() if each.is_dir())
 
     def built(self, hook, **environment):
-        """The name of the wheel that is made of the source archive, and its files."""
-        libraries = run(f"{BUILD}print(*it.archives(), sep=':')", HERE).stdout.strip()
-        ran = run(f"{BUILD}print(it.{hook}(sys.argv[2]))", self.sources, self.work, PEP440_ARCHIVES=libraries, **environment)
+        """The name of the wheel that is made of the source archive, as on a machine where nothing is installed, and its files."""
+        ran = run(f"{BUILD}{WITHOUT_TOOLCHAIN}; print(it.{hook}(sys.argv[2]))", self.sources, self.work, PEP440_ARCHIVES="", **environment)
         self.assertEqual((ran.returncode, ran.stderr), (0, ""))
         with zipfile.ZipFile(self.work / ran.stdout.strip()) as it:
             return ran.stdout.strip(), {name.partition(".dist-info/")[2] or name: it.read(name).decode(errors="replace") for name in it.namelist()}

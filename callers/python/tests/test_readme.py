@@ -15,13 +15,13 @@ import warnings
 import peer
 import pep440_rattle
 from pep440_rattle import InvalidSpecifier, InvalidVersion, Specifier, SpecifierSet, Version
-from pep440_rattle import markers, ranges, requirements, specifiers, tags, utils, version
+from pep440_rattle import _own_tags, markers, ranges, requirements, specifiers, utils, version
 
 MOST = 2**64 - 1
 README = os.path.join(os.path.dirname(os.path.dirname(os.path.abspath(__file__))), "README.md")
 MODULES = {"version": version, "specifiers": specifiers, "requirements": requirements, "markers": markers, "utils": utils}
-OF_26 = {**MODULES, "ranges": ranges, "tags": tags}
-# What is not here: modules whole, and of one of them names.
+OF_26 = {**MODULES, "ranges": ranges, "tags": _own_tags}
+# What is not here: modules whole, and, where there is no `packaging`, names of one of them.
 NOT_HERE = {"dependency_groups", "direct_url", "errors", "licenses", "metadata", "pylock"}
 NOT_IN_TAGS = {
     *("INTERPRETER_SHORT_NAMES", "AppleVersion", "PythonVersion", "android_platforms", "compatible_tags", "cpython_tags"),
@@ -43,6 +43,12 @@ print(json.dumps([shown(text) for text in json.load(sys.stdin)]))
 """
 # Rows that the README leaves out.
 MORE = [
+    ('Specifier("===1.0").contains("v1.0")', 'True', 'False'),
+    ('SpecifierSet(">=1").prereleases', 'False', 'None'),
+    ('Specifier("<1.post1").contains("1a1", True)', 'False', 'True'),
+    ('SpecifierSet("").contains("x")', 'InvalidVersion', 'True'),
+    ('Version(1)', 'TypeError', 'InvalidVersion'),
+    ('type("Mine", (Version,), {})("1")', "<Version('1')>", "<Mine('1')>"),
     ('len(SpecifierSet(">=1,>=1.0"))', '1', '2'),
     ('Marker("extra == \'a\'").evaluate(context="requirement")', 'KeyError', 'UndefinedEnvironmentName'),
     ('Requirement("a\\n")', "<Requirement('a')>", 'InvalidRequirement'),
@@ -77,6 +83,37 @@ except ImportError:
     second = them.create(isolated="isolated" in sys.argv)
 failure = them.run_string(second, f"import sys; sys.path[:] = {sys.path!r}; import pep440_rattle")
 sys.exit(failure and failure.formatted)
+"""
+# Tags where there is no `packaging`; prints their pickles, in hexadecimal.
+OWN_TAGS = """
+import copy, pickle, sys
+sys.modules["packaging"] = None
+from pep440_rattle import tags, utils
+found = utils.parse_wheel_filename("a-1.0-py2.py3-none-any.whl")[3]
+assert {*map(str, found)} == {"py2-none-any", "py3-none-any"} and {*map(type, found)} == {tags.Tag}
+assert found == tags.parse_tag("py2.py3-none-any") == copy.deepcopy(found) and not hasattr(tags, "sys_tags")
+print(*(pickle.dumps(found, protocol).hex() for protocol in range(pickle.HIGHEST_PROTOCOL + 1)))
+"""
+# Tags beside the `packaging` of the folder given first, and the pickles given next; also that of a tag as the first releases had it.
+THEIR_TAGS = """
+import pickle, sys, typing
+sys.path.insert(0, sys.argv[1])
+from pep440_rattle import tags, utils
+assert not {"packaging", "pep440_rattle._own_tags"} & {*sys.modules}
+from packaging import tags as theirs
+best = next(theirs.sys_tags())
+found = utils.parse_wheel_filename(f"a-1.0-{best}.whl")[3]
+assert found & {*theirs.sys_tags()} == {best} == found == pickle.loads(pickle.dumps(found))
+assert {pickle.loads(bytes.fromhex(it)) for it in sys.argv[2:]} == {theirs.parse_tag("py2.py3-none-any")}
+assert all(getattr(tags, it) is getattr(theirs, it) for it in vars(theirs) if it[:2] != "__") and {*dir(theirs)} <= {*dir(tags)}
+from pep440_rattle.tags import *
+assert Tag is utils.Tag is theirs.Tag and parse_tag is utils.parse_tag and sys_tags is theirs.sys_tags
+assert typing.get_type_hints(utils.parse_wheel_filename)["return"].__args__[3] == frozenset[Tag]
+try:
+    pickle.loads(b"cbuiltins\\nfrozenset\\n((lcpep440_rattle.tags\\nTag\\n(Vpy3\\nVnone\\nVany\\nt\\x81atR.")
+except AttributeError:
+    sys.exit()
+sys.exit("a former pickle is read")
 """
 
 
@@ -163,7 +200,23 @@ class Departures(unittest.TestCase):
     def test_other_modules(self):
         for name in ("dependency_groups", "direct_url", "errors", "licenses", "metadata", "pylock"):
             self.assertIsNone(importlib.util.find_spec(f"pep440_rattle.{name}"))
-        self.assertFalse(hasattr(pep440_rattle.tags, "sys_tags"))
+
+    def test_tags(self):
+        package = sys.modules[peer.find()[0].__name__.rpartition(".")[0]]
+        own = subprocess.run([sys.executable, "-c", OWN_TAGS], capture_output=True, text=True, check=False)
+        self.assertEqual(own.returncode, 0, own.stderr)
+        self.assertEqual(errors_of(THEIR_TAGS, os.path.dirname(package.__path__[0]), *own.stdout.split()), "")
+
+    def test_items_of_a_set(self):
+        for items, error in ((["1"], InvalidSpecifier), (b"1.0", TypeError)):
+            with self.assertRaises(error):
+                SpecifierSet(items)
+
+    def test_signatures(self):
+        self.assertEqual((str(inspect.signature(Version)), str(inspect.signature(Version.__init__))), ("(version)", "(self, /, *args, **kwargs)"))
+
+    def test_undefined_names(self):
+        self.assertTrue(issubclass(markers.UndefinedEnvironmentName, KeyError) and issubclass(markers.UndefinedEnvironmentName, ValueError))
 
     def test_error_messages(self):
         with self.assertRaises(InvalidVersion) as caught:
@@ -281,7 +334,7 @@ class Names(unittest.TestCase):
     def test_docstrings(self):
         """The examples of their docstrings, over these modules."""
         runner = doctest.DocTestRunner(verbose=False, optionflags=doctest.IGNORE_EXCEPTION_DETAIL | doctest.ELLIPSIS | doctest.NORMALIZE_WHITESPACE)
-        wide = {name: it for module in OF_26.values() for name, it in vars(module).items() if name[:2] != "__"}
+        wide = {name: it for module in OF_26.values() for name, it in vars(module).items() if name[:2] != "__"} | {"Tag": utils.Tag, "parse_tag": utils.parse_tag}
         count = 0
         for name in OF_26:
             for each in doctest.DocTestFinder(exclude_empty=True).find(self.module(name), globs=dict(wide)):

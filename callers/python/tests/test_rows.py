@@ -38,7 +38,7 @@ CONTAINS = [
 
 
 def load_tests(loader, tests, pattern):
-    for name in ("version", "specifiers", "texts", "requirements", "markers", "utils", "tags", "_parser"):
+    for name in ("version", "specifiers", "texts", "requirements", "markers", "utils", "_own_tags", "_parser"):
         module = importlib.import_module(f"pep440_rattle.{name}")
         tests.addTests(doctest.DocTestSuite(module, extraglobs={"Version": Version, "SpecifierSet": SpecifierSet, "Specifier": Specifier}))
     return tests

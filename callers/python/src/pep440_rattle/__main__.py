@@ -15,7 +15,7 @@ def _folders() -> list[pathlib.Path]:
 def _main() -> None:
     program = next((it for folder in _folders() if (it := folder / "pyver").is_file()), None)
     if not program:
-        sys.exit("pep440_rattle: there is no pyver here: the wheel was made without programs (they need glibc 2.34), or they were removed")
+        sys.exit("pep440_rattle: there is no pyver here: the wheel was made without programs, or they were removed")
     os.execv(program, [str(program), *sys.argv[1:]])
 
 

@@ -1,78 +1,37 @@
-"""Tags of wheels, as `parse_wheel_filename` returns them: the class of `packaging.tags` and how a string is read, without the tags of a machine."""
+"""Tags of wheels: all names of `packaging.tags`, its very objects, where that can be imported, so that a process has one class `Tag`; else those of `_own_tags`.
+
+Either is imported once a name is asked for.
+"""
 from __future__ import annotations
 
-import math
-from typing import NamedTuple
+import functools
+import importlib
+import types
+from typing import TYPE_CHECKING, Any
 
-from ._core import follows_26
-
-__all__ = ["InvalidTag", "Tag", "TooManyTagsError", "UnsortedTagsError", "parse_tag"]
-
-
-class InvalidTag(ValueError):
-    """A string is no tag."""
-
-
-class UnsortedTagsError(ValueError):
-    """Parts of a tag are not sorted, as PEP 425 has them."""
+if TYPE_CHECKING:
+    from ._own_tags import InvalidTag as InvalidTag
+    from ._own_tags import Tag as Tag
+    from ._own_tags import TooManyTagsError as TooManyTagsError
+    from ._own_tags import UnsortedTagsError as UnsortedTagsError
+    from ._own_tags import parse_tag as parse_tag
 
 
-class TooManyTagsError(ValueError):
-    """A string stands for more tags than are wanted."""
+@functools.cache
+def _module() -> types.ModuleType:
+    try:
+        return importlib.import_module("packaging.tags")
+    except ImportError:
+        return importlib.import_module("pep440_rattle._own_tags")
 
 
-class _Parts(NamedTuple):
-    interpreter: str
-    abi: str
-    platform: str
+def __dir__() -> list[str]:
+    return dir(_module())
 
 
-class Tag(_Parts):
-    """An interpreter, an interface of it, and a platform, in lower case.
-
-    >>> str(Tag("cp310", "abi3", "manylinux2014_x86_64"))
-    'cp310-abi3-manylinux2014_x86_64'
-    """
-
-    __slots__ = ()
-
-    def __new__(cls, interpreter: str, abi: str, platform: str) -> Tag:
-        return super().__new__(cls, interpreter.lower(), abi.lower(), platform.lower())
-
-    def __str__(self) -> str:
-        return "-".join(self)
-
-
-def _check(tag: str, parts: list[list[str]], validate_order: bool, limit: int | None) -> None:
-    """As `packaging` 26 does."""
-    for part in parts:
-        if "" in part:
-            raise InvalidTag(f"Tag {tag!r} has an empty component: {'.'.join(part)!r}")
-        if validate_order and part != sorted(part):
-            raise UnsortedTagsError(f"Tag component {'.'.join(part)!r} is not in sorted order per PEP 425")
-    count = math.prod(map(len, parts))
-    if limit is not None and count > limit:
-        raise TooManyTagsError(f"Compressed tag set would generate {count} tags, exceeding limit {limit}")
-    if len(parts) != 3:
-        raise InvalidTag(f"Tag {tag!r} must have exactly three components")
-    for interpreter in parts[0]:
-        if not interpreter.isidentifier():
-            raise InvalidTag(f"Tag {tag!r} has an invalid interpreter: {interpreter!r}")
-
-
-def parse_tag(tag: str, *, validate_order: bool = False, limit: int | None = None) -> frozenset[Tag]:
-    """The tags that a string with points in it stands for.
-
-    >>> sorted(map(str, parse_tag("py2.py3-none-any")))
-    ['py2-none-any', 'py3-none-any']
-
-    Raises `InvalidTag` where the string is none, with `validate_order` `UnsortedTagsError` where a part is not sorted, `TooManyTagsError` where they are more
-    than the limit, and `ValueError` where this is negative.
-    """
-    if limit is not None and limit < 0:
-        raise ValueError("limit must be non-negative")
-    parts = [part.split(".") for part in tag.split("-")]
-    if follows_26():
-        _check(tag, parts, validate_order, limit)
-    interpreters, abis, platforms = parts
-    return frozenset(Tag(interpreter, abi, platform) for interpreter in interpreters for abi in abis for platform in platforms)
+def __getattr__(name: str) -> Any:
+    if name == "__all__":
+        return getattr(_module(), name, None) or [it for it in dir(_module()) if it[0] != "_"]
+    if name[:2] == "__":
+        raise AttributeError(f"module {__name__!r} has no attribute {name!r}")
+    return getattr(_module(), name)

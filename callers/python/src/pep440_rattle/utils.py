@@ -2,14 +2,14 @@
 from __future__ import annotations
 
 import functools
+import itertools
 import re
 import sys
-from typing import TYPE_CHECKING, NewType, Union, cast
+from typing import TYPE_CHECKING, Any, NewType, Union, cast
 
 from pep440_rattle._core import follows_26, make_name_call, normal_name, split_wheel
 
 from . import tags as _tags
-from .tags import Tag, parse_tag
 from .version import InvalidVersion, Version
 
 __all__ = [
@@ -107,26 +107,36 @@ def _parse_version(text: str, error: type[ValueError], kind: str, filename: str)
 
 
 @functools.lru_cache(256)
-def _read_tags(text: str, by_26: bool) -> frozenset[Tag]:
-    """The tags of a string: most wheels have one of a few."""
-    return parse_tag(text)
+def _read_tags(text: str, validate_order: bool, by_26: bool) -> frozenset[_tags.Tag]:
+    """The tags of a string: most wheels have one of a few. A copy of `packaging` whose module this is reads them by its own rules."""
+    if __package__ != "pep440_rattle":
+        return _tags.parse_tag(text, **{"validate_order": True} if validate_order else {})
+    from pep440_rattle._own_tags import split_tag
+
+    return frozenset(itertools.starmap(_tags.Tag, itertools.product(*split_tag(text, validate_order))))
 
 
-def _parse_tags(text: str, validate_order: bool, filename: str) -> frozenset[Tag]:
+# Why a name of a wheel is none, by the names of errors: 24 and 25 have no such classes.
+_REASONS = {"UnsortedTagsError": "compressed tag set components must be in sorted order per PEP 425", "InvalidTag": "invalid tag component"}
+
+
+def _parse_tags(text: str, validate_order: bool, filename: str) -> frozenset[_tags.Tag]:
     try:
-        return parse_tag(text, validate_order=validate_order) if validate_order else _read_tags(text, follows_26())
+        return _read_tags(text, validate_order, follows_26())
     except ValueError as error:
-        # 24 and 25 have no such classes
-        if isinstance(error, getattr(_tags, "UnsortedTagsError", ())):
-            reason = "compressed tag set components must be in sorted order per PEP 425"
-        elif isinstance(error, getattr(_tags, "InvalidTag", ())):
-            reason = "invalid tag component"
-        else:
+        reason = _REASONS.get(type(error).__name__)
+        if not reason:
             raise
     raise InvalidWheelFilename(f"Invalid wheel filename ({reason}): {filename!r}")
 
 
-def parse_wheel_filename(filename: str, *, validate_order: bool = False) -> tuple[NormalizedName, Version, BuildTag, frozenset[Tag]]:
+def __getattr__(name: str) -> Any:
+    if name in ("Tag", "parse_tag"):
+        return getattr(_tags, name)
+    raise AttributeError(f"module {__name__!r} has no attribute {name!r}")
+
+
+def parse_wheel_filename(filename: str, *, validate_order: bool = False) -> tuple[NormalizedName, Version, BuildTag, frozenset[_tags.Tag]]:
     """The name, version, build number and tags of a wheel (PEP 427).
 
     Raises `InvalidWheelFilename` where the string is no name of one, or with `validate_order` has tags that are not sorted.
