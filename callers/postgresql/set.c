@@ -129,18 +129,17 @@ static Bytes take_until(Reading *reading, const char *ends)
 /* The key of a version, with room for one more byte; no bytes where it is none. */
 static Bytes key_of_version(Bytes text, bool *has_local)
 {
-    Bytes key = {NULL, 0};
-    pep440_parts parts;
-    uint64_t none[1];
+    Bytes key;
     bool is_text = text.length > 0 && text.length <= MOST_TEXT && text.bytes[0] > SET_FORMAT;
-    uint8_t status = is_text ? pep440_parts_of(text.bytes, text.length, &parts, none, 0) : PEP440_INVALID_VERSION;
+    uint8_t status = is_text ? write_all(pep440_sort_key, text, &key) : PEP440_INVALID_VERSION;
     if (status == PEP440_INVALID_VERSION)
-        return key;
-    if (status != PEP440_NO_ROOM)
-        expect_ok(status);
-    *has_local = parts.has_local != 0;
-    expect_ok(write_all(pep440_sort_key, text, &key));
-    return key;
+        return (Bytes){NULL, 0};
+    expect_ok(status);
+    *has_local = memchr(text.bytes, '+', text.length) != NULL;
+    /* its own room, and not what was there for any */
+    uint8_t *kept = memcpy(palloc(key.length + 1), key.bytes, key.length);
+    pfree(unconstify(uint8_t *, key.bytes));
+    return (Bytes){kept, key.length};
 }
 
 /* The bound of an interval with this bracket, of which `closed` is the one beside a version. */

@@ -377,6 +377,18 @@ LONG = [  # what takes the longest of the texts that a server takes, and of the 
 ]
 
 
+def test_long_sets(server):
+    """A set has no limit: what an aggregate may make is read as it was printed, 5 MB in two seconds of processor."""
+    db = server.connect()
+    db.rows(f"CREATE TEMP TABLE long AS SELECT '{{' || string_agg('[1.' || n || ', 1.' || n || '.1)', ', ' ORDER BY n) || '}}' AS text FROM generate_series(1, 230000) AS n")
+    begun = processor_time(db)
+    db.rows("SELECT isempty(text::pep440_set) FROM long")
+    taken, length = processor_time(db) - begun, int(db.value("SELECT length(text) FROM long WHERE (text::pep440_set)::text = text"))
+    db.close()
+    assert length > 5_000_000 and taken < 2, (length, taken)
+    return f"{length} characters read in {taken:.2f} s of processor"
+
+
 def test_interrupts(server):
     """A statement that reads a long text ends soon after its time is over: of the processor's, since on a loaded machine all waits."""
     db, longest = server.connect(), (0, "")

@@ -3,7 +3,8 @@ use Rattle.std.specs.Prelude.{ℕ, ◌&&◌, ◌||◌, List, [], ◌∷◌, Bool
 use Rattle.std.specs.Borrow.{Bor}
 use Rattle.std.specs.HashMap.{HashMap, get_by}
 use Rattle.std.specs.List.{flat_map, list_all, list_any}
-use Rattle.pep440_rs.specs.Specifiers.{Spec}
+use Rattle.std.specs.Ordering.{eq_by_cmp}
+use Rattle.pep440_rs.specs.Specifiers.{Spec, spec_cmp}
 use Rattle.pep440_rs.specs.declared.specifier.operator.Operator.{Operator}
 use Rattle.pep440_rs.specs.declared.specifier.operator.Operator.TheVariants.{Equal, EqualStar, ExactEqual}
 use Rattle.pyver_requirements.specs.LineKinds.{LineKind, Location, PipOption, Requirement, Variable, line_kind}
@@ -58,10 +59,10 @@ is_equality EqualStar = true
 is_equality ExactEqual = true
 is_equality _ = false
 
--- a list that pip takes for a pin, or would but for what is repeated
+-- a list that pip takes for a pin: one specifier of equality, which may be there again, as `==1,==1.0`
 abbrev pub is_pin : List Spec → Bool
 is_pin [] = false
-is_pin (s ∷ rest) = list_all (λ (m : Spec). is_equality m.operator) (s ∷ rest)
+is_pin (s ∷ rest) = is_equality s.operator && list_all (λ (m : Spec). eq_by_cmp spec_cmp m s) rest
 
 -- the line has a hash, or may have one in quotes
 abbrev pub may_have_hash : FileLine → Bool

@@ -1,6 +1,8 @@
 //! Lines that lack the hash or the version that pip wants of each requirement once one has a hash.
 ghost use Rattle.std.specs.Prelude.{◌≡◌, ◌&&◌, ◌||◌, IfOk, List, bytes_eq, map, not, ℕ};
 ghost use Rattle.std.specs.List.{flat_map, list_all, list_any};
+ghost use Rattle.std.specs.Ordering.{eq_by_cmp};
+ghost use Rattle.pep440_rs.specs.Specifiers.{spec_cmp};
 ghost use Rattle.pyver_findings.specs.Hashes.{has_hash, is_known_name, has_pin, is_equality, is_hashed, is_hashing, is_pin, is_pip_option, lacking_of_line, lacking_by, lacks_hashes, may_be_hashed, may_have_hash, reads_hashes, says, waives_hashes, wants_hashes};
 ghost use Rattle.pyver_findings.specs.Views.{AddsFindings, demand_of, file_line_of};
 ghost use Rattle.pyver_requirements.specs.LineKinds.{line_kind_of};
@@ -81,17 +83,21 @@ fn is_equality(operator: Operator) -> bool
     )
 }
 
-fn are_equalities(members: &[VersionSpecifier]) -> bool
-    ensures { result ≡ list_all (λ m. is_equality m.operator) members.now }
+// Each member is this one.
+fn are_repeated(members: &[VersionSpecifier], one: &VersionSpecifier) -> bool
+    ensures { result ≡ list_all (λ m. eq_by_cmp spec_cmp m one.now) members.now }
 {
-    members.iter().all(|member| is_equality(*member.operator()))
+    members.iter().all(|member| member == one)
 }
 
 // The list is a pin to pip.
 fn is_pin(members: &[VersionSpecifier]) -> bool
     ensures { result ≡ is_pin members.now }
 {
-    !members.is_empty() && are_equalities(members)
+    match members.split_first() {
+        Some((first, rest)) => is_equality(*first.operator()) && are_repeated(rest, first),
+        None => false,
+    }
 }
 
 fn may_have_hash(line: &FileLine) -> bool
