@@ -1,8 +1,8 @@
 //! The kinds of documents, and which locks count for a project.
 ghost use Rattle.std.specs.Prelude.{◌≡◌, map, ◌==◌, count_by};
 ghost use Rattle.std.specs.List.{list_any};
-ghost use Rattle.pyver_documents.specs.Comparing.{same_lock_kind, same_kind, is_below, is_nearer, is_project, project_at, is_beside, counts_for};
-ghost use Rattle.pyver_documents.specs.DocumentKinds.{ends_path, lies_above, is_named_pylock, is_document_path, kind_of_path, kind_of_word};
+ghost use Rattle.pyver_documents.specs.Comparing.{same_lock_kind, same_kind, is_below, is_nearer, is_project, is_beside};
+ghost use Rattle.pyver_documents.specs.DocumentKinds.{ends_path, lies_above, is_named_pylock, is_document_path, is_pipenv_path, kind_of_path, kind_of_word};
 ghost use Rattle.pyver_documents.specs.DocumentViews.{document_of};
 ghost use Rattle.pyver_locks.specs.LockedFiles.{last_section};
 
@@ -12,7 +12,7 @@ use pyver_locks::lock_kind::LockKind;
 /// The kinds of documents.
 #[derive(Clone, Copy, Debug, PartialEq, Eq)]
 pub enum DocumentKind {
-    /// `pyproject.toml`, or a Pipfile.
+    /// `pyproject.toml`.
     Project,
     /// A lock.
     Lock(LockKind),
@@ -34,7 +34,6 @@ fn same_lock_kind(one: LockKind, other: LockKind) -> bool
             | (LockKind::Uv, LockKind::Uv)
             | (LockKind::Poetry, LockKind::Poetry)
             | (LockKind::Pdm, LockKind::Pdm)
-            | (LockKind::Pipfile, LockKind::Pipfile)
             | (LockKind::Unknown, LockKind::Unknown)
     )
 }
@@ -69,12 +68,12 @@ impl Document {
         self.is_project() && lies_above(lock.path(), self.path())
     }
 
-    // It is a lock of the same kind in a folder nearer to the file with this path than that of the other lock.
-    fn is_nearer(&self, path: &[u8], lock: &Document) -> bool
-        ensures { result ≡ is_nearer (project_at path.now) (document_of lock.now) (document_of self.now) }
+    // It is a lock of the same kind in a folder nearer to the project than that of the other lock.
+    fn is_nearer(&self, project: &Document, lock: &Document) -> bool
+        ensures { result ≡ is_nearer (document_of project.now) (document_of lock.now) (document_of self.now) }
     {
         same_kind(lock.kind, self.kind)
-            && lies_above(self.path(), path)
+            && lies_above(self.path(), project.path())
             && folder(lock.path()).len() < folder(self.path()).len()
     }
 }
@@ -86,13 +85,13 @@ fn has_below(documents: &[Document], lock: &Document) -> bool
     documents.iter().any(|document| document.is_below(lock))
 }
 
-// Some document is a lock of the same kind in a folder nearer to the file with this path.
-fn has_nearer(documents: &[Document], path: &[u8], lock: &Document) -> bool
-    ensures { result ≡ list_any (λ d. is_nearer (project_at path.now) (document_of lock.now) (document_of d)) documents.now }
+// Some document is a lock of the same kind in a folder nearer to the project.
+fn has_nearer(documents: &[Document], project: &Document, lock: &Document) -> bool
+    ensures { result ≡ list_any (λ d. is_nearer (document_of project.now) (document_of lock.now) (document_of d)) documents.now }
 {
     documents
         .iter()
-        .any(|document| document.is_nearer(path, lock))
+        .any(|document| document.is_nearer(project, lock))
 }
 
 // The lock counts for the project, of these documents.
@@ -103,15 +102,7 @@ pub(crate) fn is_beside(documents: &[Document], project: &Document, lock: &Docum
     if !has_below(documents, lock) {
         return true;
     }
-    lies_above(lock.path(), project.path()) && !has_nearer(documents, project.path(), lock)
-}
-
-// The lock counts for the export with this path, of these documents.
-#[tactic(auto, using(pyver_requirements::proofs::Grouped::any_viewed))]
-pub(crate) fn counts_for(documents: &[Document], path: &[u8], lock: &Document) -> bool
-    ensures { result ≡ counts_for (map document_of documents.now) path.now (document_of lock.now) }
-{
-    lies_above(lock.path(), path) && !has_nearer(documents, path, lock)
+    lies_above(lock.path(), project.path()) && !has_nearer(documents, project, lock)
 }
 
 // The path is this name, or ends with it after a `/`.
@@ -164,16 +155,23 @@ pub fn is_document_path(path: &[u8]) -> bool
         || path.ends_with(b".json")
 }
 
-/// The kind of the document with this path, by its last section: `pyproject.toml`, `Pipfile`, `pylock.toml`, `pylock.NAME.toml` with a
-/// NAME without a dot, `uv.lock`, `poetry.lock`, `pdm.lock` or `Pipfile.lock`. Any other document has none.
+/// Whether the path names a Pipfile or its lock, which are not read: `pipenv verify` checks them.
+///
+/// Allocates nothing.
+pub fn is_pipenv_path(path: &[u8]) -> bool
+    ensures { result ≡ is_pipenv_path path.now }
+{
+    ends_path(path, b"Pipfile", b"/Pipfile") || ends_path(path, b"Pipfile.lock", b"/Pipfile.lock")
+}
+
+/// The kind of the document with this path, by its last section: `pyproject.toml`, `pylock.toml`, `pylock.NAME.toml` with a
+/// NAME without a dot, `uv.lock`, `poetry.lock` or `pdm.lock`. Any other document has none.
 ///
 /// Allocates nothing.
 pub fn kind_of_path(path: &[u8]) -> Option<DocumentKind>
     ensures { result ≡ kind_of_path path.now }
 {
-    if ends_path(path, b"pyproject.toml", b"/pyproject.toml")
-        || ends_path(path, b"Pipfile", b"/Pipfile")
-    {
+    if ends_path(path, b"pyproject.toml", b"/pyproject.toml") {
         Some(DocumentKind::Project)
     } else if ends_path(path, b"pylock.toml", b"/pylock.toml") {
         Some(DocumentKind::Lock(LockKind::Pylock))
@@ -185,14 +183,12 @@ pub fn kind_of_path(path: &[u8]) -> Option<DocumentKind>
         Some(DocumentKind::Lock(LockKind::Poetry))
     } else if ends_path(path, b"pdm.lock", b"/pdm.lock") {
         Some(DocumentKind::Lock(LockKind::Pdm))
-    } else if ends_path(path, b"Pipfile.lock", b"/Pipfile.lock") {
-        Some(DocumentKind::Lock(LockKind::Pipfile))
     } else {
         None
     }
 }
 
-/// The kind of document that this word names: `pyproject`, `pylock`, `uv`, `poetry`, `pdm` or `pipfile`. Any other word names none.
+/// The kind of document that this word names: `pyproject`, `pylock`, `uv`, `poetry` or `pdm`. Any other word names none.
 ///
 /// Allocates nothing.
 pub fn kind_of_word(word: &str) -> Option<DocumentKind>
@@ -204,7 +200,6 @@ pub fn kind_of_word(word: &str) -> Option<DocumentKind>
         "uv" => Some(DocumentKind::Lock(LockKind::Uv)),
         "poetry" => Some(DocumentKind::Lock(LockKind::Poetry)),
         "pdm" => Some(DocumentKind::Lock(LockKind::Pdm)),
-        "pipfile" => Some(DocumentKind::Lock(LockKind::Pipfile)),
         _ => None,
     }
 }

@@ -65,7 +65,6 @@ fn push_package(findings: &mut Vec<Finding>, locked: LockedReading) -> Result<()
     let LockedReading {
         line: _line,
         name: _name,
-        extras: _extras,
         condition: _condition,
         version: _version,
         invalid,

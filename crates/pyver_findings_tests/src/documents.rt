@@ -1,9 +1,9 @@
 //! What is found in documents.
 use pyver_documents::{
-    Document, DocumentKind, LockKind, find_document_problems, find_export_problems,
-    is_document_path, kind_of_path, kind_of_word,
+    Document, DocumentKind, LockKind, find_document_problems, is_document_path, is_pipenv_path,
+    kind_of_path, kind_of_word,
 };
-use pyver_findings::{Conflict, FileLine, Finding, SourceFile, is_export, parse_demands};
+use pyver_findings::{Conflict, FileLine, Finding, SourceFile};
 use std::alloc::Global;
 use std::str;
 use testing::CaseError;
@@ -16,7 +16,6 @@ fn print_kind(alloc: Global, kind: Option<DocumentKind>) -> Result<String, CaseE
         Some(DocumentKind::Lock(LockKind::Uv)) => "uv",
         Some(DocumentKind::Lock(LockKind::Poetry)) => "poetry",
         Some(DocumentKind::Lock(LockKind::Pdm)) => "pdm",
-        Some(DocumentKind::Lock(LockKind::Pipfile)) => "pipfile",
         Some(DocumentKind::Lock(LockKind::Unknown)) => "unknown",
         None => "-",
     };
@@ -25,6 +24,9 @@ fn print_kind(alloc: Global, kind: Option<DocumentKind>) -> Result<String, CaseE
 
 /// A word for the kind of the document with this path.
 pub fn print_document_kind(alloc: Global, path: &str) -> Result<String, CaseError> {
+    if is_pipenv_path(path.as_bytes()) {
+        return Ok(String::from_str(alloc, "pipenv")?);
+    }
     print_kind(alloc, kind_of_path(path.as_bytes()))
 }
 
@@ -110,40 +112,6 @@ pub fn print_document_report(alloc: Global, files: &[String]) -> Result<String, 
     }
     let (lines, files, left_out) = (report.lines, report.files, report.left_out.len());
     write!(printed, "{lines} {files} {left_out}\n")?;
-    Ok(printed)
-}
-
-/// Whether a tool made the requirements file, and the names that its lines ask for.
-pub fn print_export(alloc: Global, name: &str, given: &str) -> Result<String, CaseError> {
-    let file = source_file(alloc, name, given)?;
-    let word = if is_export(alloc, &file)? {
-        "yes"
-    } else {
-        "no"
-    };
-    let mut printed = String::from_str(alloc, word)?;
-    for demand in &parse_demands(alloc, &file)? {
-        write!(printed, " {}", text(demand.name.as_slice())?)?;
-    }
-    Ok(printed)
-}
-
-/// What is found in requirements files beside documents, each given by its name and its text: for each finding the column and the reason, or a word,
-/// and then its lines.
-pub fn print_export_report(alloc: Global, given: &[String]) -> Result<String, CaseError> {
-    let (mut files, mut documents) = (Vec::new(alloc), Vec::new(alloc));
-    for index in 0..given.len() / 2 {
-        let (name, text) = (given[2 * index].as_str(), given[2 * index + 1].as_str());
-        match kind_of_path(name.as_bytes()) {
-            Some(_) => documents.push(document(alloc, name, text)?)?,
-            None => files.push(source_file(alloc, name, text)?)?,
-        }
-    }
-    let report = find_export_problems(alloc, files.as_slice(), documents.as_slice())?;
-    let mut printed = String::new(alloc);
-    for finding in &report.findings {
-        push_finding(&mut printed, finding)?;
-    }
     Ok(printed)
 }
 

@@ -7,7 +7,7 @@ mod reports;
 
 use documents::{
     print_document_kind, print_document_path, print_document_report, print_environments,
-    print_export, print_export_report, print_named_kind,
+    print_named_kind,
 };
 use reports::{
     Form, print_each, print_findings, print_kind, print_lines, print_marker, print_named_files,
@@ -38,8 +38,6 @@ impl Calls for FindingsCalls {
     fn answer(&self, alloc: Global, call: &str, arguments: &[String]) -> Result<String, CaseError> {
         match (call, arguments) {
             ("documents", files) => print_document_report(alloc, files),
-            ("exports", files) => print_export_report(alloc, files),
-            ("export", [name, text]) => print_export(alloc, name.as_str(), text.as_str()),
             ("environments", files) => print_environments(alloc, files),
             ("document-kind", [path]) => print_document_kind(alloc, path.as_str()),
             ("document-path", [path]) => {

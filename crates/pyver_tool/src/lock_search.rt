@@ -1,13 +1,10 @@
-//! Where the locks of projects and exports are sought.
-ghost use Rattle.std.specs.Prelude.{◌≡◌, ◌∷◌, ◌++◌, [], IfOk, if◌then◌else◌, map};
+//! Where the locks of projects are sought.
+ghost use Rattle.std.specs.Prelude.{◌≡◌, ◌++◌, [], IfOk, map};
 ghost use Rattle.std.specs.List.{flat_map, list_any};
-ghost use Rattle.pyver_findings.specs.Views.{file_of};
-ghost use Rattle.pyver_documents.specs.Comparing.{is_project};
 ghost use Rattle.pyver_documents.specs.DocumentViews.{document_of};
-ghost use Rattle.pyver_tool.specs.RequirementFiles.{export_searches, is_folder, is_lock, lock_searches, name_between, path_searches, search_of, searches_for, sought_names};
+ghost use Rattle.pyver_tool.specs.RequirementFiles.{is_folder, is_lock, lock_searches, name_between, path_searches, search_of, searches_for, sought_names};
 
 use pyver_documents::{Document, DocumentKind};
-use pyver_findings::{SourceFile, is_export};
 use std::alloc::{AllocError, Global};
 
 // The names of a lock in the folders of a file, the nearest first.
@@ -58,7 +55,7 @@ fn list_names(alloc: Global, path: &[u8], lock: &str) -> Result<LockSearch, Allo
     Ok(LockSearch { names })
 }
 
-// The searches for each lock of the file with this path.
+// The searches for each lock of the project with this path.
 fn push_searches(
     alloc: Global,
     searches: &mut Vec<LockSearch>,
@@ -70,7 +67,6 @@ fn push_searches(
     searches.push(list_names(alloc, path, "uv.lock")?)?;
     searches.push(list_names(alloc, path, "poetry.lock")?)?;
     searches.push(list_names(alloc, path, "pdm.lock")?)?;
-    searches.push(list_names(alloc, path, "Pipfile.lock")?)?;
     Ok(())
 }
 
@@ -104,32 +100,6 @@ fn has_lock(documents: &[Document]) -> bool
     documents.iter().any(|document| is_lock(document))
 }
 
-// The searches for the locks of the requirements file, if it is an export and not standard input.
-fn push_file(
-    alloc: Global,
-    searches: &mut Vec<LockSearch>,
-    file: &SourceFile,
-) -> Result<(), AllocError>
-    ensures { IfOk result (λ _. map search_of searches.new.items ≡ map search_of searches.old.items ++ export_searches (file_of file.now)) }
-{
-    let path = file.name.as_slice();
-    if !is_export(alloc, file)? || path == b"-".as_slice() {
-        return Ok(());
-    }
-    push_searches(alloc, searches, path)
-}
-
-// The searches for the locks of these requirements files.
-fn list_export_searches(alloc: Global, files: &[SourceFile]) -> Result<Vec<LockSearch>, AllocError>
-    ensures { IfOk result (λ searches. map search_of searches.items ≡ flat_map export_searches (map file_of files.now)) }
-{
-    let mut searches = Vec::new(alloc);
-    for file in files {
-        push_file(alloc, &mut searches, file)?;
-    }
-    Ok(searches)
-}
-
 // The searches for the locks of these documents.
 fn list_document_searches(
     alloc: Global,
@@ -146,28 +116,14 @@ fn list_document_searches(
 
 // The searches for the locks of these documents; none if one of them is a lock.
 #[tactic(auto, using(pyver_requirements::proofs::Grouped::any_viewed))]
-fn list_unlocked_searches(
+pub(crate) fn list_searches(
     alloc: Global,
     documents: &[Document],
 ) -> Result<Vec<LockSearch>, AllocError>
-    ensures { IfOk result (λ searches. map search_of searches.items ≡ (if list_any is_lock (map document_of documents.now) then [] else flat_map searches_for (map document_of documents.now))) }
+    ensures { IfOk result (λ searches. map search_of searches.items ≡ lock_searches (map document_of documents.now)) }
 {
     if has_lock(documents) {
         return Ok(Vec::new(alloc));
     }
     list_document_searches(alloc, documents)
-}
-
-// The searches for the locks of these documents; of the files, if there is no document.
-pub(crate) fn list_searches(
-    alloc: Global,
-    files: &[SourceFile],
-    documents: &[Document],
-) -> Result<Vec<LockSearch>, AllocError>
-    ensures { IfOk result (λ searches. map search_of searches.items ≡ lock_searches (map file_of files.now) (map document_of documents.now)) }
-{
-    if documents.is_empty() {
-        return list_export_searches(alloc, files);
-    }
-    list_unlocked_searches(alloc, documents)
 }
