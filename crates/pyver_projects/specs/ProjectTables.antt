@@ -311,12 +311,14 @@ abbrev pub leading_name : Option (List ℕ) → List (List ℕ)
 leading_name None = []
 leading_name (Some text) = normal (lead is_name_byte text) ∷ []
 
--- the names whose versions the project sets itself, whatever others require: of uv's overrides, which are requirements, and of PDM's table of them
+-- the names whose versions the project sets itself, whatever others require: of uv's overrides, which are requirements, and of PDM's table of them; and
+-- those that PDM leaves out of its lock ("Exclude specific packages and their dependencies from the lock file" of PDM)
 abbrev pub overridden_names : Members → List (List ℕ)
 overridden_names document =
     let tool : Option Data = get_member (codes "tool") document in
     flat_map (λ (d : Data). leading_name (as_str d)) (listed (inside (codes "override-dependencies") (inside (codes "uv") tool)))
-    ++ entry_names (entries (inside (codes "overrides") (inside (codes "resolution") (inside (codes "pdm") tool))))
+    ++ (entry_names (entries (inside (codes "overrides") (inside (codes "resolution") (inside (codes "pdm") tool))))
+    ++ flat_map (λ (d : Data). leading_name (as_str d)) (listed (inside (codes "excludes") (inside (codes "resolution") (inside (codes "pdm") tool)))))
 
 -- the document has this table of a tool
 abbrev pub has_tool : List ℕ → Members → Bool

@@ -552,7 +552,7 @@ pub(crate) fn names_in(alloc: Global, value: Option<&Value>) -> Result<Vec<Vec<u
 }
 
 /// The names whose versions the project sets itself, in their normal form: those with which strings of `tool.uv.override-dependencies` begin,
-/// then the keys of `tool.pdm.resolution.overrides`.
+/// then the keys of `tool.pdm.resolution.overrides`, then those with which strings of `tool.pdm.resolution.excludes` begin.
 ///
 /// Allocates.
 #[tactic(auto, using(crate::proofs::Walks::joined_views))]
@@ -566,5 +566,6 @@ pub fn overridden_names(alloc: Global, document: &Table) -> Result<Vec<Vec<u8>>,
     push_leading_names(alloc, &mut names, items(of_uv))?;
     let mut more = names_in(alloc, inside(of_pdm, "overrides"))?;
     names.append(&mut more)?;
+    push_leading_names(alloc, &mut names, items(inside(of_pdm, "excludes")))?;
     Ok(names)
 }
