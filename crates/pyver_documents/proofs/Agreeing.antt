@@ -25,7 +25,7 @@ use Rattle.pyver_documents.proofs.Holding.{asks_so, findings_of, sections_same, 
 use Rattle.pyver_documents.proofs.LockedPackages.{none_so, not_excluded, some_named, met_everywhere}
 use Rattle.pyver_documents.proofs.Once.{entered, required, one_locked_set, one_string}
 use Rattle.pyver_documents.proofs.Walks.{left_nil, beside_pair, nil_at, right_nil, zip_once, zip_each, beside_it, all_flat}
-use Rattle.pyver_documents.specs.Comparing.{compared, compared_demand, Excuse, is_locked, beside_all, differing, found_beside, found_in_pair, is_beside, in_one_folder, is_excused, is_plain_for_uv, python_difference, replaced_names, stale_beside, stale_in_pair, first_difference, is_in_one, python_minors, overrides_read, unmet_extras, excluded, excluded_in, is_overridden, leaves_out, missing, is_installer, is_project_reading, names_read, lack_without_marker, absent, lacking, taken_packages, unlocked, unmet, unmet_demand, invalid_package, own_report, with_own_reports, FindsOfReading, documents_report, with_found}
+use Rattle.pyver_documents.specs.Comparing.{compared, compared_demand, Excuse, is_locked, beside_all, differing, found_beside, found_in_pair, belongs, is_beside, in_one_folder, is_excused, is_plain_for_uv, python_difference, replaced_names, stale_beside, stale_in_pair, first_difference, is_in_one, python_minors, overrides_read, unmet_extras, excluded, excluded_in, is_overridden, leaves_out, missing, is_installer, is_project_reading, names_read, lack_without_marker, absent, lacking, taken_packages, unlocked, unmet, unmet_demand, invalid_package, own_report, with_own_reports, FindsOfReading, documents_report, with_found}
 use Rattle.pyver_documents.specs.DocumentLaws.{HasTable, HasContents, AreTogether, HasLock, HasProject, AllOfOnePython, AllEntered, AllRequired, replaces, AllContained, ContainsVersion, IsPresent, needed_by, AllMet, AllPresent, AllOfVersion, AllAlone, NoFindingImpliesContained, IsPart, extras_of, NoFindingImpliesSatisfiable}
 use Rattle.pyver_documents.specs.Meanings.{groups, DocumentReading, IsDocumentReading, IsProject, IsStringReading, StringReading, IsLockReading, LockedReading, AreLockedPythons, Document, IsRequirementReading, reference_marker, requirement_line, ExtraReading, IsBroken, IsLock, string_line, IsLockedReading, fault_meaning, IsFileReading, file_meaning, is_of_version, extra_inclusions, inclusions, IsSoundString}
 use Rattle.pyver_documents.specs.Together.{parts, project_python, is_standard, same_part, section_part, sections, with_new, same_finding, FindsOfPart, FindsOfParts, part_demands, project_domain, is_marked, all_demands, demand_in_part, has_extra, has_group}
@@ -90,13 +90,13 @@ not_lacking true fs unlike e = absurd (true≢false unlike)
 not_lacking false fs unlike e = e
 
 -- nothing is found in a project beside the lock in its folder
-module _ (documents : List Document) (zs : List DocumentReading) (h : AllZip IsDocumentReading documents zs) (found : flat_map (beside_all (is_excused zs) documents (zip documents zs)) (zip documents zs) ≡ []) (file lock : File) (kind : LockKind) (l : LockContents) (t : Members) where
+module _ (documents : List Document) (zs : List DocumentReading) (h : AllZip IsDocumentReading documents zs) (found : flat_map (beside_all (is_excused zs) (zip documents zs)) (zip documents zs) ≡ []) (file lock : File) (kind : LockKind) (l : LockContents) (t : Members) where
   abbrev Nothing : Type 0
   Nothing = (xs : List StringReading) × (es : List LineMeaning) × AllZip (IsStringReading (groups t) file) (sources t) xs × AllZip (IsRequirementReading lock.name) l.entries es
       × (python : Option Segments) × AreLockedPythons l.parts.python python
       × (python_difference lock (project_python xs) python ++ (if is_plain_for_uv t then differing (replaced_names t (project_names t)) xs es else []) ≡ [])
 
-  nothing_stale : HasProject documents file t → HasLock documents kind lock l → is_beside documents (record { kind = Project; file = file }) (record { kind = Lock kind; file = lock }) ≡ true → folder file.name ≡ folder lock.name → Nothing
+  nothing_stale : HasProject documents file t → HasLock documents kind lock l → belongs l.parts lock.name file.name ≡ true → folder file.name ≡ folder lock.name → Nothing
   nothing_stale ((k, inside, at), table) ((m, below, there), other) beside near =
       let project : Document = record { kind = Project; file = file } in
       let locked : Document = record { kind = Lock kind; file = lock } in
@@ -107,12 +107,12 @@ module _ (documents : List Document) (zs : List DocumentReading) (h : AllZip IsD
       let (python, pythons, ys, ms, os, es, fs, q, required, optional, entered, files, is_lock) = lock_read lock kind l y other ry in
       let nothing : stale_in_pair (project, x) (locked, y) ≡ [] =
       left_nil (stale_in_pair (project, x) (locked, y)) (found_beside (is_excused zs) (in_one_folder project locked) (Lock kind) x y)
-      (counted (is_beside documents project locked) (stale_in_pair (project, x) (locked, y) ++ found_beside (is_excused zs) (in_one_folder project locked) (Lock kind) x y) beside
-      (nil_at (found_in_pair (is_excused zs) documents (project, x)) pairs (locked, y) b in_y is_y (nil_at (beside_all (is_excused zs) documents pairs) pairs (project, x) a in_x is_x found))) in
+      (counted (is_beside file.name lock.name y) (stale_in_pair (project, x) (locked, y) ++ found_beside (is_excused zs) (in_one_folder project locked) (Lock kind) x y) (ap (is_beside file.name lock.name) is_lock ∙ beside)
+      (nil_at (found_in_pair (is_excused zs) (project, x)) pairs (locked, y) b in_y is_y (nil_at (beside_all (is_excused zs) pairs) pairs (project, x) a in_x is_x found))) in
       let here : stale_beside lock x y ≡ [] = counted (in_one_folder project locked) (stale_beside lock x y) ((bytes_eq-Decides (folder file.name) (folder lock.name)).1 near) nothing in
       (xs, es, g, entered, python, pythons, (λ e. stale_beside lock (sym is_project e) (sym is_lock e)) ∙ here)
 
-  nothing_differs : AreTogether documents file t lock kind l → is_beside documents (record { kind = Project; file = file }) (record { kind = Lock kind; file = lock }) ≡ true
+  nothing_differs : AreTogether documents file t lock kind l → belongs l.parts lock.name file.name ≡ true
       → (xs : List StringReading) × (es : List LineMeaning) × AllZip (IsStringReading (groups t) file) (sources t) xs × AllZip (IsRequirementReading lock.name) l.entries es × (differing (replaced_names t (project_names t)) xs es ≡ [])
   nothing_differs are beside =
       let (xs, es, g, entered, python, pythons, nothing) = nothing_stale are.has are.known beside are.beside in
@@ -130,7 +130,7 @@ first_nil : (lock : File) (found : Option ℕ) → first_difference lock found �
 first_nil lock None e = refl
 first_nil lock (Some k) e = cc e
 
-all_of_one_python : (documents : List Document) (zs : List DocumentReading) → AllZip IsDocumentReading documents zs → flat_map (beside_all (is_excused zs) documents (zip documents zs)) (zip documents zs) ≡ [] → AllOfOnePython documents
+all_of_one_python : (documents : List Document) (zs : List DocumentReading) → AllZip IsDocumentReading documents zs → flat_map (beside_all (is_excused zs) (zip documents zs)) (zip documents zs) ≡ [] → AllOfOnePython documents
 all_of_one_python documents zs h found file lock kind l t own locked k has known beside near have within =
     let (xs, es, g, entered, python, pythons, nothing) = nothing_stale documents zs h found file lock kind l t has known beside near in
     let requirements = if is_plain_for_uv t then differing (replaced_names t (project_names t)) xs es else [] in
@@ -143,12 +143,12 @@ all_of_one_python documents zs h found file lock kind l t own locked k has known
     none_differs (contains record_cmp own (python_record k)) (contains record_cmp locked (python_record k))
     (none_so (is_in_one own locked) python_minors k within (first_nil lock (find (is_in_one own locked) python_minors) same))
 
-all_entered : (documents : List Document) (zs : List DocumentReading) → AllZip IsDocumentReading documents zs → flat_map (beside_all (is_excused zs) documents (zip documents zs)) (zip documents zs) ≡ [] → AllEntered documents
+all_entered : (documents : List Document) (zs : List DocumentReading) → AllZip IsDocumentReading documents zs → flat_map (beside_all (is_excused zs) (zip documents zs)) (zip documents zs) ≡ [] → AllEntered documents
 all_entered documents zs h found file lock kind l t s n are beside some within counts requires other =
     let (xs, es, g, entries, nothing) = nothing_differs documents zs h found file lock kind l t are beside in
     entered (groups t) file lock (replaced_names t (project_names t)) (sources t) l.entries xs g es entries nothing s n within some counts requires other
 
-all_required : (documents : List Document) (zs : List DocumentReading) → AllZip IsDocumentReading documents zs → flat_map (beside_all (is_excused zs) documents (zip documents zs)) (zip documents zs) ≡ [] → AllRequired documents
+all_required : (documents : List Document) (zs : List DocumentReading) → AllZip IsDocumentReading documents zs → flat_map (beside_all (is_excused zs) (zip documents zs)) (zip documents zs) ≡ [] → AllRequired documents
 all_required documents zs h found file lock kind l t q list are beside within read plain other =
     let (xs, es, g, entries, nothing) = nothing_differs documents zs h found file lock kind l t are beside in
     required (groups t) file lock (replaced_names t (project_names t)) (sources t) l.entries xs g es entries nothing q list within read plain other
@@ -199,7 +199,7 @@ not_replaced documents s n zs h others true is =
     not_overridden documents (normal n.name) zs h (λ other u known. ap (λ b. b && list_any (bytes_eq (normal n.name)) (overridden_names u)) (sym is) ∙ others other u known)
 not_replaced documents s n zs h others false is = refl
 
-all_contained : (documents : List Document) (zs : List DocumentReading) → AllZip IsDocumentReading documents zs → flat_map (beside_all (is_excused zs) documents (zip documents zs)) (zip documents zs) ≡ [] → AllContained documents
+all_contained : (documents : List Document) (zs : List DocumentReading) → AllZip IsDocumentReading documents zs → flat_map (beside_all (is_excused zs) (zip documents zs)) (zip documents zs) ≡ [] → AllContained documents
 all_contained documents zs h found file lock kind l s p n v (t, ((k, inside, at), table), (i, within, here)) ((m, below, there), other) (j, under, this) beside counts has_it asks kept locks =
     let project : Document = record { kind = Project; file = file } in
     let locked : Document = record { kind = Lock kind; file = lock } in
@@ -211,8 +211,8 @@ all_contained documents zs h found file lock kind l s p n v (t, ((k, inside, at)
     let (python, pythons, ys, ms, os, es, fs, q, required, optional, entered, files, is_lock) = lock_read lock kind l y other ry in
     let nothing : found_beside (is_excused zs) near (Lock kind) x y ≡ [] =
     right_nil (stale_in_pair (project, x) (locked, y)) (found_beside (is_excused zs) near (Lock kind) x y)
-    (counted (is_beside documents project locked) (stale_in_pair (project, x) (locked, y) ++ found_beside (is_excused zs) near (Lock kind) x y) beside
-    (nil_at (found_in_pair (is_excused zs) documents (project, x)) pairs (locked, y) b in_y is_y (nil_at (beside_all (is_excused zs) documents pairs) pairs (project, x) a in_x is_x found))) in
+    (counted (is_beside file.name lock.name y) (stale_in_pair (project, x) (locked, y) ++ found_beside (is_excused zs) near (Lock kind) x y) (ap (is_beside file.name lock.name) is_lock ∙ beside)
+    (nil_at (found_in_pair (is_excused zs) (project, x)) pairs (locked, y) b in_y is_y (nil_at (beside_all (is_excused zs) pairs) pairs (project, x) a in_x is_x found))) in
     let compares : flat_map (compared kind l.parts (project_names t) (is_excused zs) near ys) xs ≡ [] =
     left_nil (flat_map (compared kind l.parts (project_names t) (is_excused zs) near ys) xs) (unmet_extras kind l.parts (is_excused zs) near ys os xs) ((λ e. found_beside (is_excused zs) near (Lock kind) (sym is_project e) (sym is_lock e)) ∙ nothing) in
     let (z, (c, in_z, is_z), rz) = beside_it (IsStringReading (groups t) file) (sources t) xs s i within here g in
@@ -330,7 +330,7 @@ all_alone documents zs h own lock kind l ((m, below, there), other) =
 
 pub no_finding_means_contained : NoFindingImpliesContained
 no_finding_means_contained documents r (zs, h, fs, cs, finds, is) none =
-    let compared = flat_map (beside_all (is_excused zs) documents (zip documents zs)) (zip documents zs) in
+    let compared = flat_map (beside_all (is_excused zs) (zip documents zs)) (zip documents zs) in
     let found : (with_own_reports (is_excused zs) empty_report zs).findings ++ compared ≡ [] = left_nil ((with_own_reports (is_excused zs) empty_report zs).findings ++ compared) fs (sym (ap (λ (e : Report). e.findings) is) ∙ none) in
     let own : flat_map (λ x. (own_report (is_excused zs) x).findings) zs ≡ [] = sym (findings_of documents (is_excused zs) empty_report zs) ∙ left_nil (with_own_reports (is_excused zs) empty_report zs).findings compared found in
     let beside : compared ≡ [] = right_nil (with_own_reports (is_excused zs) empty_report zs).findings compared found in

@@ -596,15 +596,15 @@ module _ (documents : List Document) where
   pub all_right : (xs : List DocumentReading) → AllZip IsDocumentReading documents xs → All Right (documents_report documents xs).findings
   all_right xs h =
       let pairs = zip documents xs in
-      All-append Right (with_own_reports (is_excused xs) empty_report xs).findings (flat_map (beside_all (is_excused xs) documents pairs) pairs)
+      All-append Right (with_own_reports (is_excused xs) empty_report xs).findings (flat_map (beside_all (is_excused xs) pairs) pairs)
       (subst (λ fs. All Right fs) (sym (findings_of (is_excused xs) empty_report xs))
       (all_flat Right (λ x. (own_report (is_excused xs) x).findings) xs
       (zip_each IsDocumentReading (Contains documents) (λ x. All Right (own_report (is_excused xs) x).findings) (λ d x known r. of_document (is_excused xs) d.kind d.file x known r) documents xs (All-contains_itself documents) h)))
-      (all_flat Right (beside_all (is_excused xs) documents pairs) pairs
-      (pairs_each IsDocumentReading (Contains documents) (λ a. All Right (beside_all (is_excused xs) documents pairs a))
-      (λ d x known r. all_flat Right (found_in_pair (is_excused xs) documents (d, x)) pairs
-      (pairs_each IsDocumentReading (Contains documents) (λ b. All Right (found_in_pair (is_excused xs) documents (d, x) b))
-      (λ e y at s. counted_right (is_beside documents d e) (stale_in_pair (d, x) (e, y) ++ found_beside (is_excused xs) (in_one_folder d e) e.kind x y)
+      (all_flat Right (beside_all (is_excused xs) pairs) pairs
+      (pairs_each IsDocumentReading (Contains documents) (λ a. All Right (beside_all (is_excused xs) pairs a))
+      (λ d x known r. all_flat Right (found_in_pair (is_excused xs) (d, x)) pairs
+      (pairs_each IsDocumentReading (Contains documents) (λ b. All Right (found_in_pair (is_excused xs) (d, x) b))
+      (λ e y at s. counted_right (is_beside d.file.name e.file.name y) (stale_in_pair (d, x) (e, y) ++ found_beside (is_excused xs) (in_one_folder d e) e.kind x y)
       (All-append Right (stale_in_pair (d, x) (e, y)) (found_beside (is_excused xs) (in_one_folder d e) e.kind x y) (near_right d e x y known at r s (in_one_folder d e) refl) (beside_right (is_excused xs) (in_one_folder d e) d.kind d.file e x y known at r s)))
       documents xs (All-contains_itself documents) h)) documents xs
       (All-contains_itself documents) h))

@@ -9,7 +9,6 @@ use Rattle.pep440_rs.specs.Specifiers.{Spec, spec_cmp}
 use Rattle.pep440_version.specs.Key.{record_cmp}
 use Rattle.pep440_version.specs.Record.{Record}
 use Rattle.toml.specs.Data.{Members, Data, as_str, get_member}
-use Rattle.pyver_documents.specs.DocumentKinds.{lies_above}
 use Rattle.pyver_documents.specs.Meanings.{StringReading, LockedReading, DocumentReading, IsBroken, IsLock, IsProject, ExtraReading, Document, IsDocumentReading}
 use Rattle.pyver_documents.specs.Together.{is_standard, project_python, FindsOfParts}
 use Rattle.pyver_documents.specs.declared.document_kind.DocumentKind.{DocumentKind}
@@ -27,7 +26,7 @@ use Rattle.pyver_locks.specs.Locks.{is_listed_part}
 use Rattle.pyver_locks.specs.PackageRequirements.{extra_key}
 use Rattle.pyver_locks.specs.declared.known_environment.KnownEnvironment.{KnownEnvironment}
 use Rattle.pyver_locks.specs.declared.lock_kind.LockKind.{LockKind}
-use Rattle.pyver_locks.specs.declared.lock_kind.LockKind.TheVariants.{Uv, Poetry, Pdm, Pylock, Unknown}
+use Rattle.pyver_locks.specs.declared.lock_kind.LockKind.TheVariants.{Uv, Poetry, Pdm, Pylock}
 use Rattle.pyver_projects.specs.ProjectStrings.{Dependencies, Entry, Extra, Group, Section, Constraint, Inclusion, inclusions_by, includes, key_line, number_or_one, OwnExtras, inside, listed, text_in}
 use Rattle.pyver_projects.specs.ProjectTables.{has_tool}
 use Rattle.pyver_requirements.specs.declared.cause.Cause.{Cause}
@@ -419,33 +418,15 @@ abbrev pub is_project : DocumentKind → Bool
 is_project Project = true
 is_project (Lock kind) = false
 
--- the document is a project in the folder of the lock, or in one below
-abbrev pub is_below : Document → Document → Bool
-is_below lock d = is_project d.kind && lies_above lock.file.name d.file.name
+-- a lock belongs to the project in its folder, and a lock of uv to those in the folders of its members, too
+abbrev pub belongs : LockParts → (lock project : List ℕ) → Bool
+belongs parts lock project = bytes_eq (folder lock) (folder project) || list_any (λ m. bytes_eq (folder lock ++ m) (folder project)) parts.members
 
-abbrev pub same_lock_kind : LockKind → LockKind → Bool
-same_lock_kind Pylock Pylock = true
-same_lock_kind Uv Uv = true
-same_lock_kind Poetry Poetry = true
-same_lock_kind Pdm Pdm = true
-same_lock_kind Unknown Unknown = true
-same_lock_kind _ _ = false
-
--- both are locks of one kind
-abbrev pub same_kind : DocumentKind → DocumentKind → Bool
-same_kind (Lock one) (Lock other) = same_lock_kind one other
-same_kind Project other = false
-same_kind (Lock one) Project = false
-
--- the document is a lock of the same kind in a folder nearer to the project
-abbrev pub is_nearer : Document → Document → Document → Bool
-is_nearer project lock d = same_kind lock.kind d.kind && (lies_above d.file.name project.file.name && nat_lt (length (folder lock.file.name)) (length (folder d.file.name)))
-
--- a lock counts for the projects in its folder and below that have none of its kind nearer, or for all, if there is none
-abbrev pub is_beside : List Document → Document → Document → Bool
-is_beside documents project lock =
-    if list_any (is_below lock) documents then lies_above lock.file.name project.file.name && not (list_any (is_nearer project lock) documents)
-    else true
+-- the document with this name that was read so is a lock that belongs to the project with this name
+abbrev pub is_beside : (project lock : List ℕ) → DocumentReading → Bool
+is_beside project lock (IsLock parts python ys ms os es fs) = belongs parts lock project
+is_beside project lock (IsProject t together names overridden xs) = false
+is_beside project lock (IsBroken f) = false
 
 -- both are in one folder: a lock says what the project there requires, and none below
 abbrev pub in_one_folder : Document → Document → Bool
@@ -457,12 +438,12 @@ stale_in_pair a b = if in_one_folder a.0 b.0 then stale_beside b.0.file a.1 b.1 
 
 module _ (excused : List ℕ → Excuse) where
   -- a document that was read beside another, if it is compared with it
-  abbrev pub found_in_pair : List Document → Document × DocumentReading → Document × DocumentReading → List Finding
-  found_in_pair documents a b = if is_beside documents a.0 b.0 then stale_in_pair a b ++ found_beside excused (in_one_folder a.0 b.0) b.0.kind a.1 b.1 else []
+  abbrev pub found_in_pair : Document × DocumentReading → Document × DocumentReading → List Finding
+  found_in_pair a b = if is_beside a.0.file.name b.0.file.name b.1 then stale_in_pair a b ++ found_beside excused (in_one_folder a.0 b.0) b.0.kind a.1 b.1 else []
 
   -- a document beside each of these
-  abbrev pub beside_all : List Document → List (Document × DocumentReading) → Document × DocumentReading → List Finding
-  beside_all documents others a = flat_map (found_in_pair documents a) others
+  abbrev pub beside_all : List (Document × DocumentReading) → Document × DocumentReading → List Finding
+  beside_all others a = flat_map (found_in_pair a) others
 
 -- ---- all documents
 
@@ -472,7 +453,7 @@ with_findings a found = record { findings = a.findings ++ found; ignored = a.ign
 
 -- the report of documents that were read: of each by itself, in order, and then of each project beside each lock that counts for it
 abbrev pub documents_report : List Document → List DocumentReading → Report
-documents_report documents xs = with_findings (with_own_reports (is_excused xs) empty_report xs) (flat_map (beside_all (is_excused xs) documents (zip documents xs)) (zip documents xs))
+documents_report documents xs = with_findings (with_own_reports (is_excused xs) empty_report xs) (flat_map (beside_all (is_excused xs) (zip documents xs)) (zip documents xs))
 
 -- of a project the requirements that hold together and have no version in common
 abbrev pub FindsOfReading : DocumentReading → List Finding → List Cause → Type 0

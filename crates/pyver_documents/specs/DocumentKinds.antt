@@ -4,7 +4,6 @@ use Rattle.std.specs.List.{ends_with, starts_with}
 use Rattle.toml.specs.Parse.{parse_document}
 use Rattle.pyver_documents.specs.declared.document_kind.DocumentKind.{DocumentKind}
 use Rattle.pyver_documents.specs.declared.document_kind.DocumentKind.TheVariants.{Lock, Project}
-use Rattle.pyver_findings.specs.NamedFiles.{folder}
 use Rattle.pyver_locks.specs.LockContents.{LockContents}
 use Rattle.pyver_locks.specs.LockedFiles.{last_section}
 use Rattle.pyver_locks.specs.Locks.{contents}
@@ -14,10 +13,6 @@ use Rattle.pyver_locks.specs.declared.lock_kind.LockKind.TheVariants.{Pdm, Poetr
 -- the path is this name, or ends with it after a `/`
 abbrev pub ends_path : List ℕ → List ℕ → List ℕ → Bool
 ends_path path name after_slash = bytes_eq path name || ends_with nat_eq path after_slash
-
--- the first path names a file in the folder of the second, or in one above
-abbrev pub lies_above : List ℕ → List ℕ → Bool
-lies_above path other = starts_with nat_eq other (folder path)
 
 -- `pylock.NAME.toml`, where NAME has no dot (PEP 751)
 abbrev pub is_named_pylock : List ℕ → Bool

@@ -17,7 +17,7 @@ use Rattle.pep440_version.specs.Record.{Record}
 use Rattle.pep440_version.specs.Rejections.{Rejection, Rejects}
 use Rattle.toml.specs.Data.{Members}
 use Rattle.toml.specs.Parse.{parse_document}
-use Rattle.pyver_documents.specs.Comparing.{is_needed, leaves_out, Excuse, project_asks, lack_in, python_finding, same_extras, same_list, is_plain_for_uv, is_declared, unentered_reason, unrequired_reason, IsDocumentsReport, is_beside, is_locked, is_installer, python_minors, replaced_names}
+use Rattle.pyver_documents.specs.Comparing.{is_needed, leaves_out, Excuse, project_asks, lack_in, python_finding, same_extras, same_list, is_plain_for_uv, is_declared, unentered_reason, unrequired_reason, IsDocumentsReport, belongs, is_locked, is_installer, python_minors, replaced_names}
 use Rattle.pyver_documents.specs.DocumentKinds.{locked}
 use Rattle.pyver_documents.specs.Meanings.{Document, package_line, groups, IsSectionMeaning, string_line, extra_inclusions, IsStringReading, StringReading, file_meaning, is_of_version, fault_meaning, ExtraReading, IsExtraReading, requirement_line, AreLockedPythons, Groups, has_own_extras}
 use Rattle.pyver_documents.specs.Together.{has_extra, has_group, holds_in, project_domain, project_python, is_replaced, part_demands, section_part}
@@ -415,7 +415,7 @@ replaces s name t = is_replaced (overridden_names t) s.section (normal name)
 -- has one
 abbrev pub AllContained : List Document → Type 0
 AllContained documents = (file lock : File) (kind : LockKind) (l : LockContents) (s : ProjectString) (p : LockedPackage) (n : Needed) (v : Record)
-    → HasString documents file s → HasLock documents kind lock l → Contains l.packages p → IsTrue (is_beside documents (record { kind = Project; file = file }) (record { kind = Lock kind; file = lock }))
+    → HasString documents file s → HasLock documents kind lock l → Contains l.packages p → IsTrue (belongs l.parts lock.name file.name)
     → IsTrue (is_locked (bytes_eq (folder file.name) (folder lock.name)) s.section) → leaves_out kind l.parts.names s.section ≡ false → AlwaysAsks s n → ((other : File) (t : Members) → HasProject documents other t → replaces s n.name t ≡ false)
     → LocksVersion n.name p v → SomeContained l.packages n.name n.specifiers
 
@@ -455,7 +455,7 @@ AllAlone documents = (lock : File) (kind : LockKind) (l : LockContents) → HasL
 -- each lock that says for which versions of Python the project in its folder is says the same as this
 abbrev pub AllOfOnePython : List Document → Type 0
 AllOfOnePython documents = (file lock : File) (kind : LockKind) (l : LockContents) (t : Members) (own locked : Segments) (minor : ℕ) → HasProject documents file t → HasLock documents kind lock l
-    → IsTrue (is_beside documents (record { kind = Project; file = file }) (record { kind = Lock kind; file = lock })) → folder file.name ≡ folder lock.name → HavePythons file t l own locked
+    → IsTrue (belongs l.parts lock.name file.name) → folder file.name ≡ folder lock.name → HavePythons file t l own locked
     → Contains python_minors minor → contains record_cmp own (python_record minor) ≡ contains record_cmp locked (python_record minor)
 
 -- the name is not one by which the project asks for extras of its own that uv may replace
@@ -465,13 +465,13 @@ IsWrittenName name t = list_any (bytes_eq (normal name)) (replaced_names t (proj
 -- each requirement of a project is one that the lock in its folder says it has, where that says some
 abbrev pub AllEntered : List Document → Type 0
 AllEntered documents = (file lock : File) (kind : LockKind) (l : LockContents) (t : Members) (s : ProjectString) (n : Needed) → AreTogether documents file t lock kind l
-    → IsTrue (is_beside documents (record { kind = Project; file = file }) (record { kind = Lock kind; file = lock })) → nat_lt 0 (length l.entries) ≡ true
+    → IsTrue (belongs l.parts lock.name file.name) → nat_lt 0 (length l.entries) ≡ true
     → Contains (sources t) s → IsDeclared (groups t) s.section → Requires s n → IsWrittenName n.name t → (q : LockedRequirement) × Contains l.entries q × IsEntryFor n q
 
 -- and each that it says the project has, without a source of its own, is one of the project
 abbrev pub AllRequired : List Document → Type 0
 AllRequired documents = (file lock : File) (kind : LockKind) (l : LockContents) (t : Members) (q : LockedRequirement) (list : List Spec) → AreTogether documents file t lock kind l
-    → IsTrue (is_beside documents (record { kind = Project; file = file }) (record { kind = Lock kind; file = lock }))
+    → IsTrue (belongs l.parts lock.name file.name)
     → Contains l.entries q → DerivesList q.list list → q.is_reference ≡ false → IsWrittenName q.name t
     → (s : ProjectString) × (n : Needed) × Contains (sources t) s × IsDeclared (groups t) s.section × Requires s n × IsEntryFor n q
 

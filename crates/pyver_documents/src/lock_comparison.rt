@@ -3,14 +3,14 @@ ghost use Rattle.std.specs.Prelude.{◌≡◌, [], ◌++◌, IfOk, if◌then◌e
 ghost use Rattle.std.specs.HashMap.{get_by};
 ghost use Rattle.std.specs.List.{filter, list_any, flat_map};
 ghost use Rattle.std.specs.Option.{option_map_or};
-ghost use Rattle.pyver_documents.specs.Comparing.{locks_groups, locks_extras, names_groups, locks_entries, is_of_other_tool, is_needed, leaves_out, is_locked, is_overridden, outside, accepts_version, locked_line, excluded, has_name, absent, may_take, lack_without_marker, taken_packages, unlocked, lacking, unmet_demand, unmet, missing, excluded_in, compared_demand, compared, unmet_extras, found_beside, found_in_pair, beside_all};
-ghost use Rattle.pyver_documents.specs.DocumentViews.{locked_reading_of, IsIndex, index_parts, packages_of, excuses, string_reading_of, extra_reading_of, document_reading_of, document_of, read_pair};
+ghost use Rattle.pyver_documents.specs.Comparing.{locks_groups, locks_extras, names_groups, locks_entries, is_of_other_tool, is_needed, leaves_out, is_locked, is_overridden, outside, accepts_version, locked_line, excluded, has_name, absent, may_take, lack_without_marker, taken_packages, unlocked, lacking, unmet_demand, unmet, missing, excluded_in, compared_demand, compared, unmet_extras, found_beside, is_beside, found_in_pair, beside_all};
+ghost use Rattle.pyver_documents.specs.DocumentViews.{locked_reading_of, IsIndex, index_parts, packages_of, excuses, string_reading_of, extra_reading_of, document_reading_of, read_pair};
 ghost use Rattle.pyver_findings.specs.Reports.{demands_in};
 ghost use Rattle.pyver_findings.specs.Views.{file_line_of, finding_of, demand_of, line_meaning_of};
 ghost use Rattle.pyver_locks.specs.LockContents.{parts_of};
 ghost use Rattle.pyver_projects.specs.ProjectStrings.{section_of};
 
-use crate::document_kind::{Document, DocumentKind, is_beside};
+use crate::document_kind::{DocumentKind, belongs};
 use crate::document_reading::{
     DocumentReading, ExtraReading, LockReading, ProjectReading, ReadDocument, StringReading,
 };
@@ -648,18 +648,28 @@ fn push_beside<'a>(
     push_beside_lock(alloc, findings, projects, near, kind, project, lock)
 }
 
-// What is found in the first document beside the second, if this counts for it, of these documents.
+// The document that was read is a lock that belongs to the project with this name.
+fn is_beside(alloc: Global, project: &[u8], other: &ReadDocument<'_>) -> Result<bool, AllocError>
+    ensures { IfOk result (λ b. b ≡ is_beside project.now (read_pair other.now).0.file.name (read_pair other.now).1) }
+{
+    let name = other.document.file.name.as_slice();
+    match &other.reading {
+        DocumentReading::Lock(lock) => belongs(alloc, &lock.parts, name, project),
+        DocumentReading::Project(_) | DocumentReading::Broken(_) => Ok(false),
+    }
+}
+
+// What is found in the first document beside the second, if this is a lock that belongs to it.
 fn push_pair_of_documents(
     alloc: Global,
     findings: &mut Vec<Finding>,
     projects: &KnownProjects,
-    documents: &[Document],
     read: &ReadDocument<'_>,
     other: &ReadDocument<'_>,
 ) -> Result<(), AllocError>
-    ensures { IfOk result (λ _. map finding_of findings.new.items ≡ map finding_of findings.old.items ++ found_in_pair (excuses projects.now) (map document_of documents.now) (read_pair read.now) (read_pair other.now)) }
+    ensures { IfOk result (λ _. map finding_of findings.new.items ≡ map finding_of findings.old.items ++ found_in_pair (excuses projects.now) (read_pair read.now) (read_pair other.now)) }
 {
-    if !is_beside(documents, read.document, other.document) {
+    if !is_beside(alloc, read.document.file.name.as_slice(), other)? {
         return Ok(());
     }
     push_stale_in_pair(alloc, findings, read, other)?;
@@ -679,14 +689,13 @@ pub(crate) fn push_beside_all(
     alloc: Global,
     findings: &mut Vec<Finding>,
     projects: &KnownProjects,
-    documents: &[Document],
     others: &[ReadDocument<'_>],
     read: &ReadDocument<'_>,
 ) -> Result<(), AllocError>
-    ensures { IfOk result (λ _. map finding_of findings.new.items ≡ map finding_of findings.old.items ++ beside_all (excuses projects.now) (map document_of documents.now) (map read_pair others.now) (read_pair read.now)) }
+    ensures { IfOk result (λ _. map finding_of findings.new.items ≡ map finding_of findings.old.items ++ beside_all (excuses projects.now) (map read_pair others.now) (read_pair read.now)) }
 {
     for other in others {
-        push_pair_of_documents(alloc, findings, projects, documents, read, other)?;
+        push_pair_of_documents(alloc, findings, projects, read, other)?;
     }
     Ok(())
 }

@@ -57,13 +57,15 @@ pub record LockFault : Type 0 where
 
 -- the parts of a project that a lock has, in normal form: the names of its groups and extras, with `default` for the dependencies; and what `extras` and
 -- `dependency_groups` are in its markers where all that it has is installed; and the markers of the environments that it is for, or none (PEP 751,
--- "Installation"); and for which versions of Python the lock says that the project in its folder is
+-- "Installation"); for which versions of Python the lock says that the project in its folder is; and the folders of its members, as what stands before the
+-- names of their files
 pub record LockParts : Type 0 where
   pub names : List (List ℕ)
   pub extras : List (List ℕ)
   pub groups : List (List ℕ)
   pub environments : List (List ℕ)
   pub python : Option (List ℕ)
+  pub members : List (List ℕ)
 
 -- what is read of a lock: what packages require, also for the extras that their requirements ask for, and for other extras; `entries` are what it says that
 -- the project in its folder requires
@@ -95,7 +97,7 @@ abbrev pub fault_of : FaultValue → LockFault
 fault_of f = record { line = f.line; text = f.text.items; reason = f.reason.now }
 
 abbrev pub parts_of : PartsValue → LockParts
-parts_of p = record { names = map (λ n. n.items) p.names.items; extras = map (λ n. n.items) p.extras.items; groups = map (λ n. n.items) p.groups.items; environments = map (λ t. t.items) p.environments.items; python = option_map string_bytes p.python }
+parts_of p = record { names = map (λ n. n.items) p.names.items; extras = map (λ n. n.items) p.extras.items; groups = map (λ n. n.items) p.groups.items; environments = map (λ t. t.items) p.environments.items; python = option_map string_bytes p.python; members = map (λ f. f.items) p.members.items }
 
 abbrev pub contents_of : ContentsValue → LockContents
 contents_of l = record { parts = parts_of l.parts; packages = map locked_of l.packages.items; requirements = map requirement_of l.requirements.items; optional = map locked_extra_of l.optional.items; entries = map requirement_of l.entries.items; files = map locked_file_of l.files.items; faults = map fault_of l.faults.items }

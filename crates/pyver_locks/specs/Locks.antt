@@ -1,6 +1,8 @@
 -- What a lock of each format has.
 use Rattle.std.specs.Prelude.{List, [], get_or, ℕ, ◌+◌, ◌∷◌, None, Option, Some, codes, Bool, bytes_eq, not, ◌&&◌, if◌then◌else◌, length, nat_lt, ◌==◌, ◌++◌, is_none}
 use Rattle.std.specs.List.{list_any, flat_map}
+use Rattle.std.specs.Option.{option_or}
+use Rattle.pep440_pick.specs.Names.{normal}
 use Rattle.toml.specs.Data.{Data, get, Members, get_member}
 use Rattle.pyver_locks.specs.LockContents.{LockedPackage, PackageCondition, LockParts, LockedRequirement, LockedExtra, LockContents, LockFault}
 use Rattle.pyver_locks.specs.LockedFiles.{names_listed, package_condition, files_from, package_faults, counted_names, has_markers, locked_python, array_faults}
@@ -64,6 +66,28 @@ own_python Uv document packages = if list_any is_own_package packages && is_none
     then text_in (get_member (codes "requires-python") document) else None
 own_python kind document packages = None
 
+-- the folder with this path in that of the lock: what stands before the names of its files
+abbrev pub member_folder : List ℕ → List ℕ
+member_folder path = if bytes_eq path (codes ".") then [] else path ++ codes "/"
+
+-- where a package lies that is a project in a folder
+abbrev pub member_path : Data → Option (List ℕ)
+member_path d = option_or (text_in (inside (codes "editable") (get (codes "source") d))) (text_in (inside (codes "virtual") (get (codes "source") d)))
+
+-- the folder with this path, if the package with this name is one of these
+abbrev pub member_by : List (List ℕ) → Option (List ℕ) → Option (List ℕ) → List (List ℕ)
+member_by names (Some name) (Some path) = if list_any (bytes_eq (normal name)) names then member_folder path ∷ [] else []
+member_by names (Some name) None = []
+member_by names None path = []
+
+abbrev pub member_from : List (List ℕ) → Data → List (List ℕ)
+member_from names d = member_by names (text_in (get (codes "name") d)) (member_path d)
+
+-- the folders of the members of the workspace that a lock of uv names, and has as packages (uv, "Workspaces")
+abbrev pub lock_members : LockKind → Members → List Data → List (List ℕ)
+lock_members Uv document packages = flat_map (member_from (names_listed (inside (codes "members") (get_member (codes "manifest") document)))) packages
+lock_members kind document packages = []
+
 -- the parts of a lock with these packages. Only one of PEP 751 has extras and groups for markers, and environments
 abbrev pub lock_parts : LockKind → Members → List Data → LockParts
 lock_parts kind document packages = record {
@@ -72,6 +96,7 @@ lock_parts kind document packages = record {
   groups = names_listed (get_member (codes "dependency-groups") document) ++ names_listed (get_member (codes "default-groups") document);
   environments = texts_listed (get_member (codes "environments") document);
   python = own_python kind document packages;
+  members = lock_members kind document packages;
 }
 
 -- which extras a requirement asks for, under no key

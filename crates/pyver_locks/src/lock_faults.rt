@@ -13,6 +13,7 @@ ghost use Rattle.pyver_locks.specs.declared.lock_kind.LockKind.TheVariants as lo
 
 use crate::lock_kind::LockKind;
 use crate::locked_package::{LockFault, LockParts, PackageCondition, package_text};
+use crate::members::lock_members;
 use crate::own_entries::is_own_package;
 use pep440_pick::normalize_name;
 use pyver_projects::inclusions::NameIndex;
@@ -219,7 +220,7 @@ fn push_listed_names(
     push_names(alloc, names, items(value))
 }
 
-fn listed_names(alloc: Global, value: Option<&Value>) -> Result<Vec<Vec<u8>>, AllocError>
+pub(crate) fn listed_names(alloc: Global, value: Option<&Value>) -> Result<Vec<Vec<u8>>, AllocError>
     ensures { IfOk result (λ names. map (λ n. n.items) names.items ≡ names_listed (option_map (λ v. view v.now) value.entry)) }
 {
     let mut names = Vec::new(alloc);
@@ -367,12 +368,14 @@ pub(crate) fn lock_parts(
     push_listed_names(alloc, &mut groups, top(document, "default-groups"))?;
     let environments = listed_texts(alloc, items(top(document, "environments")))?;
     let python = own_python(alloc, kind, document, packages)?;
+    let members = lock_members(alloc, kind, document, packages)?;
     Ok(LockParts {
         names,
         extras,
         groups,
         environments,
         python,
+        members,
     })
 }
 

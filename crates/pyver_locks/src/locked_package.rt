@@ -91,6 +91,8 @@ pub struct LockParts {
     pub environments: Vec<Vec<u8>>,
     /// For which versions of Python it says that the project in its folder is.
     pub python: Option<String>,
+    /// The folders of its members, as its own folder has them: what stands before the names of their files.
+    pub members: Vec<Vec<u8>>,
 }
 
 /// What is read of a lock.

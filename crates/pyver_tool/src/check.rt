@@ -30,7 +30,7 @@ pub(crate) struct CheckOptions {
     pub(crate) quiet: bool,
     // The kind of files that have none by name.
     pub(crate) kind: FileKind,
-    // The locks of projects are sought, if no lock is named.
+    // The locks of projects are sought.
     pub(crate) seeks_locks: bool,
 }
 

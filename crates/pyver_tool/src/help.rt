@@ -283,7 +283,7 @@ examples:
   pyver check requirements.txt
   pyver check lock.txt constraints.txt
   pyver check pyproject.toml
-  git show HEAD:uv.lock | pyver check --format uv pyproject.toml -
+  git show HEAD:uv.lock | pyver check --no-lock --format uv pyproject.toml -
   pyver check --each */requirements.txt
   pip freeze | pyver check --json
   pyver check --output github requirements.txt
@@ -293,11 +293,12 @@ satisfies together, and versions that one line names and another excludes. '-' a
 standard input. Files that lines name after -r and -c are read too, each once; their paths are
 relative to the file that names them. Lines count together where all their markers hold.
 A file named pyproject.toml is read as a project, one named pylock.toml, pylock.NAME.toml, uv.lock,
-poetry.lock or pdm.lock as a lock: malformed strings are reported,
-requirements that no version satisfies together, and, for each lock beside a project, versions that
-it excludes and names the lock lacks. Whether a project was changed and not locked again tell 'uv lock
---check', 'poetry check --lock' and 'pdm lock --check'; a Pipfile checks 'pipenv verify'. If no lock is named, each of these but pylock.NAME.toml is sought in the folder
-of a project, then in those above it that its path names, up to the first that is there.
+poetry.lock or pdm.lock as a lock: malformed strings are reported, requirements that no version
+satisfies together, and, for each lock that belongs to a project, versions that it excludes and names
+the lock lacks. A lock belongs to the project in its folder, and uv.lock to the members that it names;
+each but pylock.NAME.toml is sought there, and uv.lock in the folders above that the path names, too.
+'uv lock --check', 'poetry check --lock' and 'pdm lock --check' tell whether a project was changed and
+not locked again; 'pipenv verify' checks a Pipfile.
 KIND is requirements, pyproject, pylock, uv, poetry or pdm. FORM is text, json, github or
 sarif: github prints commands that GitHub Actions shows at the lines, sarif a log of SARIF 2.1.0.
 Standard error says how much was read, and how much was left out: options of pip, editables, paths,
