@@ -13,8 +13,8 @@ ghost use Rattle.pyver_locks.specs.declared.lock_kind.LockKind.TheVariants as lo
 
 use crate::lock_kind::LockKind;
 use crate::locked_package::{LockFault, LockParts, PackageCondition, package_text};
-use crate::members::lock_members;
 use crate::own_entries::is_own_package;
+use crate::workspace::lock_members;
 use pep440_pick::normalize_name;
 use pyver_projects::inclusions::NameIndex;
 use pyver_projects::requirement_strings::{copy_text, first_of, lacks, poetry_list};

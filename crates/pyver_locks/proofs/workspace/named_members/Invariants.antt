@@ -2,7 +2,7 @@ use Rattle.std.proofs.Common.{◌≡◌, ◌++◌, drop, map}
 use Rattle.std.specs.List.{flat_map}
 use Rattle.toml.specs.View.{view}
 use Rattle.pyver_locks.specs.Locks.{member_from}
-use Rattle.pyver_locks.proofs.members.named_members.Given as goal
+use Rattle.pyver_locks.proofs.workspace.named_members.Given as goal
 
 abbrev pub invariant-loop-item : goal.invariant-loop-item
 invariant-loop-item l =
