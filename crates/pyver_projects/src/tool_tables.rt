@@ -565,7 +565,7 @@ pub fn overridden_names(alloc: Global, document: &Table) -> Result<Vec<Vec<u8>>,
     let mut names = Vec::new(alloc);
     push_leading_names(alloc, &mut names, items(of_uv))?;
     let mut more = names_in(alloc, inside(of_pdm, "overrides"))?;
+    push_leading_names(alloc, &mut more, items(inside(of_pdm, "excludes")))?;
     names.append(&mut more)?;
-    push_leading_names(alloc, &mut names, items(inside(of_pdm, "excludes")))?;
     Ok(names)
 }
