@@ -311,14 +311,18 @@ abbrev pub leading_name : Option (List ℕ) → List (List ℕ)
 leading_name None = []
 leading_name (Some text) = normal (lead is_name_byte text) ∷ []
 
--- the names whose versions the project sets itself, whatever others require: of uv's overrides, which are requirements, and of PDM's table of them; and
--- those that PDM leaves out of its lock ("Exclude specific packages and their dependencies from the lock file" of PDM)
+-- the names of PDM's table of overrides, and those that it leaves out of its lock ("Exclude specific packages and their dependencies from the lock
+-- file" of PDM)
+abbrev pub pdm_names : Option Data → List (List ℕ)
+pdm_names resolution =
+    entry_names (entries (inside (codes "overrides") resolution)) ++ flat_map (λ (d : Data). leading_name (as_str d)) (listed (inside (codes "excludes") resolution))
+
+-- the names whose versions the project sets itself, whatever others require: of uv's overrides, which are requirements, and those of PDM
 abbrev pub overridden_names : Members → List (List ℕ)
 overridden_names document =
     let tool : Option Data = get_member (codes "tool") document in
     flat_map (λ (d : Data). leading_name (as_str d)) (listed (inside (codes "override-dependencies") (inside (codes "uv") tool)))
-    ++ (entry_names (entries (inside (codes "overrides") (inside (codes "resolution") (inside (codes "pdm") tool))))
-    ++ flat_map (λ (d : Data). leading_name (as_str d)) (listed (inside (codes "excludes") (inside (codes "resolution") (inside (codes "pdm") tool)))))
+    ++ pdm_names (inside (codes "resolution") (inside (codes "pdm") tool))
 
 -- the document has this table of a tool
 abbrev pub has_tool : List ℕ → Members → Bool

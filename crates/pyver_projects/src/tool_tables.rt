@@ -6,7 +6,7 @@ ghost use Rattle.pep440_rs.specs.Blanks.{opens};
 ghost use Rattle.toml.specs.Data.{Data, as_str};
 ghost use Rattle.toml.specs.View.{view, table_view};
 ghost use Rattle.pyver_projects.specs.ProjectStrings.{Entry, members_list, listed, key_path, Group, inside, entries, section_of, project_string_of};
-ghost use Rattle.pyver_projects.specs.ProjectTables.{table_list, entry_list, is_package_name, unread, listed_source, entry_source, each_source, entry_sources, tool_table, is_editable, group_path, tool_group, array_sources, tool_groups, poetry_sources, dev_sources, unread_table, unread_tables, unread_fields, unread_environments, added_sources, constraint_sources, tool_sources, leading_name, entry_names, overridden_names};
+ghost use Rattle.pyver_projects.specs.ProjectTables.{table_list, entry_list, is_package_name, unread, listed_source, entry_source, each_source, entry_sources, tool_table, is_editable, group_path, tool_group, array_sources, tool_groups, poetry_sources, dev_sources, unread_table, unread_tables, unread_fields, unread_environments, added_sources, constraint_sources, tool_sources, leading_name, entry_names, pdm_names, overridden_names};
 ghost use Rattle.pyver_projects.specs.RequirementStrings.{marked_text};
 ghost use Rattle.pyver_projects.specs.declared.tool_tables.GroupTool.TheVariants as of_tool;
 
@@ -551,6 +551,15 @@ pub(crate) fn names_in(alloc: Global, value: Option<&Value>) -> Result<Vec<Vec<u
     }
 }
 
+// The names that PDM overrides, then those that it leaves out.
+fn pdm_names(alloc: Global, resolution: Option<&Value>) -> Result<Vec<Vec<u8>>, AllocError>
+    ensures { IfOk result (λ names. map (λ n. n.items) names.items ≡ pdm_names (option_map (λ v. view v.now) resolution.entry)) }
+{
+    let mut names = names_in(alloc, inside(resolution, "overrides"))?;
+    push_leading_names(alloc, &mut names, items(inside(resolution, "excludes")))?;
+    Ok(names)
+}
+
 /// The names whose versions the project sets itself, in their normal form: those with which strings of `tool.uv.override-dependencies` begin,
 /// then the keys of `tool.pdm.resolution.overrides`, then those with which strings of `tool.pdm.resolution.excludes` begin.
 ///
@@ -561,11 +570,9 @@ pub fn overridden_names(alloc: Global, document: &Table) -> Result<Vec<Vec<u8>>,
 {
     let tool = top(document, "tool");
     let of_uv = inside(inside(tool, "uv"), "override-dependencies");
-    let of_pdm = inside(inside(tool, "pdm"), "resolution");
     let mut names = Vec::new(alloc);
     push_leading_names(alloc, &mut names, items(of_uv))?;
-    let mut more = names_in(alloc, inside(of_pdm, "overrides"))?;
-    push_leading_names(alloc, &mut more, items(inside(of_pdm, "excludes")))?;
+    let mut more = pdm_names(alloc, inside(inside(tool, "pdm"), "resolution"))?;
     names.append(&mut more)?;
     Ok(names)
 }
