@@ -28,7 +28,7 @@ _pyver() {
         *,bump,*) words='-h --help --to major minor patch stable alpha beta rc post dev' ;;
         *,range,*) words='-h --help --json' ;;
         *,marker,*) words='-h --help --any-system' ;;
-        *,check,--format) words='requirements pyproject pylock uv poetry pdm pipfile' ;;
+        *,check,--format) words='requirements pyproject pylock uv poetry pdm' ;;
         *,check,--output) words='text json github sarif' ;;
         *,check,*) words='-h --help -q --quiet --each --no-lock --format --output --json' ;;
     esac

@@ -68,7 +68,7 @@ complete -c pyver -n '__fish_seen_subcommand_from check' -s h -l help -d 'print 
 complete -c pyver -n '__fish_seen_subcommand_from check' -s q -l quiet -d 'print nothing; files that cannot be opened are named'
 complete -c pyver -n '__fish_seen_subcommand_from check' -l each -d 'check each file by itself, with those that its lines name'
 complete -c pyver -n '__fish_seen_subcommand_from check' -l no-lock -d 'seek no lock of a project'
-complete -c pyver -n '__fish_seen_subcommand_from check' -l format -x -a 'requirements pyproject pylock uv poetry pdm pipfile' -d 'the kind of files that have none by name'
+complete -c pyver -n '__fish_seen_subcommand_from check' -l format -x -a 'requirements pyproject pylock uv poetry pdm' -d 'the kind of files that have none by name'
 complete -c pyver -n '__fish_seen_subcommand_from check' -l output -x -a 'text json github sarif' -d 'the form in which what is wrong is printed; without it text'
 complete -c pyver -n '__fish_seen_subcommand_from check' -l json -d '--output json: an array of objects'
 complete -c pyver -n '__fish_seen_subcommand_from check' -F

@@ -1,14 +1,12 @@
 -- Where nothing is found, each requirement contains a locked version of its name, and requirements that hold together have a version in common: all of
 -- them, and so those of each part.
-use Rattle.std.proofs.Common.{◌≡◌, ◌∙◌, List, Some, None, sym, ap, subst, inl, inr, ℕ, [], Bool, true, if◌then◌else◌, false, not, ◌||◌, arith, suc, zero, refl, bytes_eq, ◌∷◌, ◌++◌, Option, ◌&&◌, length, get_or, ◌<◌, map, cond, is_some, is_none, nat_lt}
+use Rattle.std.proofs.Common.{◌≡◌, ◌∙◌, List, Some, None, sym, ap, subst, inl, inr, ℕ, [], Bool, true, if◌then◌else◌, false, not, ◌||◌, refl, bytes_eq, ◌∷◌, ◌++◌, Option, ◌&&◌, length, get_or, ◌<◌, map, cond, is_some, is_none, nat_lt, option_map}
 use Rattle.std.specs.Prelude.{⊤}
 use Rattle.std.proofs.lemmas.Bool.{true≢false}
 use Rattle.std.proofs.lemmas.Grind.{flat_map-append}
 use Rattle.std.proofs.lemmas.List.Elements.{All-contains_itself, All-head, All-tail, All-filter, All-cons, All-nil, All-contains, All-weaker}
 use Rattle.std.proofs.lemmas.List.Folds.{list_any-append, list_any_at}
 use Rattle.std.proofs.lemmas.Slice.Eq.{bytes_eq-Decides}
-use Rattle.std.specs.Bool.{beq}
-use Rattle.std.specs.Cmp.{booleans_Decides}
 use Rattle.std.specs.List.{AllZip, flat_map, Contains, list_any, zip, find, All, filter}
 use Rattle.pep440_pick.specs.Names.{normal}
 use Rattle.pep440_pick.specs.RequirementGrammar.{Needed}
@@ -25,11 +23,11 @@ use Rattle.pep440_version.specs.Record.{Record}
 use Rattle.toml.specs.Data.{Members}
 use Rattle.pyver_documents.proofs.Holding.{asks_so, findings_of, sections_same, sound_part, sound_string, each_flat, of_part_so}
 use Rattle.pyver_documents.proofs.LockedPackages.{none_so, not_excluded, some_named, met_everywhere}
-use Rattle.pyver_documents.proofs.Once.{entered, required, one_locked_set, one_string, one_extra}
+use Rattle.pyver_documents.proofs.Once.{entered, required, one_locked_set, one_string}
 use Rattle.pyver_documents.proofs.Walks.{left_nil, beside_pair, nil_at, right_nil, zip_once, zip_each, beside_it, all_flat}
-use Rattle.pyver_documents.specs.Comparing.{compared, compared_demand, Excuse, is_locked, stale_finding, beside_all, differing, found_beside, found_in_pair, is_beside, in_one_folder, is_excused, is_plain_for_uv, python_difference, replaced_names, stale_beside, stale_by, stale_in_pair, first_difference, is_in_one, python_minors, overrides_read, unmet_extras, excluded, excluded_in, is_asked_everywhere, is_overridden, leaves_out, missing, is_installer, is_project_reading, names_read, lacks_taken, absent, lacking, taken_packages, unlocked, unmet, unmet_demand, invalid_package, own_report, project_asks, unmet_extra, with_own_reports, FindsOfReading, documents_report, with_found}
-use Rattle.pyver_documents.specs.DocumentLaws.{HasTable, HasContents, AreTogether, HasLock, HasProject, AllFresh, AllOfOnePython, AllEntered, AllRequired, replaces, AllContained, ContainsVersion, IsPresent, needed_by, AllMet, AllPresent, AllExtrasMet, AllOfVersion, AllAlone, NoFindingImpliesContained, IsPart, extras_of, NoFindingImpliesSatisfiable}
-use Rattle.pyver_documents.specs.Meanings.{groups, DocumentReading, IsDocumentReading, IsProject, IsStringReading, StringReading, IsLockReading, LockedReading, AreLockedPythons, Document, IsRequirementReading, reference_marker, requirement_line, ExtraReading, IsBroken, IsLock, string_line, IsLockedReading, fault_meaning, IsExtraReading, IsFileReading, file_meaning, is_of_version, extra_inclusions, inclusions, IsSoundString}
+use Rattle.pyver_documents.specs.Comparing.{compared, compared_demand, Excuse, is_locked, beside_all, differing, found_beside, found_in_pair, belongs, is_beside, in_one_folder, is_excused, is_plain_for_uv, python_difference, replaced_names, stale_beside, stale_in_pair, first_difference, is_in_one, python_minors, overrides_read, unmet_extras, excluded, excluded_in, is_overridden, leaves_out, missing, is_installer, is_project_reading, names_read, lack_without_marker, absent, lacking, taken_packages, unlocked, unmet, unmet_demand, invalid_package, own_report, with_own_reports, FindsOfReading, documents_report, with_found}
+use Rattle.pyver_documents.specs.DocumentLaws.{HasTable, HasContents, AreTogether, HasLock, HasProject, AllOfOnePython, AllEntered, AllRequired, replaces, AllContained, ContainsVersion, IsPresent, needed_by, AllMet, AllPresent, AllOfVersion, AllAlone, NoFindingImpliesContained, IsPart, extras_of, NoFindingImpliesSatisfiable}
+use Rattle.pyver_documents.specs.Meanings.{groups, DocumentReading, IsDocumentReading, IsProject, IsStringReading, StringReading, IsLockReading, LockedReading, AreLockedPythons, Document, IsRequirementReading, reference_marker, requirement_line, ExtraReading, IsBroken, IsLock, string_line, IsLockedReading, fault_meaning, IsFileReading, file_meaning, is_of_version, extra_inclusions, inclusions, IsSoundString}
 use Rattle.pyver_documents.specs.Together.{parts, project_python, is_standard, same_part, section_part, sections, with_new, same_finding, FindsOfPart, FindsOfParts, part_demands, project_domain, is_marked, all_demands, demand_in_part, has_extra, has_group}
 use Rattle.pyver_documents.specs.declared.document_kind.DocumentKind.{DocumentKind}
 use Rattle.pyver_documents.specs.declared.document_kind.DocumentKind.TheVariants.{Project, Lock}
@@ -47,13 +45,13 @@ use Rattle.pyver_findings.specs.NamedFiles.{folder}
 use Rattle.pyver_findings.specs.Reports.{demands_in, invalid_in, Report, empty_report}
 use Rattle.pyver_findings.specs.Views.{AddsFound, finding_of}
 use Rattle.pyver_findings.specs.declared.finding.Finding.{Finding as FindingValue}
-use Rattle.pyver_locks.specs.ContentHashes.{hash_of, is_known_text, may_have, hashed_texts}
 use Rattle.pyver_locks.specs.KnownEnvironments.{python_record}
-use Rattle.pyver_locks.specs.LockContents.{LockContents, LockParts, ContentHash, LockedRequirement, LockedFile, LockFault}
+use Rattle.pyver_locks.specs.LockContents.{LockContents, LockParts, LockedRequirement, LockedFile, LockFault}
 use Rattle.pyver_locks.specs.declared.lock_kind.LockKind.{LockKind}
 use Rattle.pyver_markers.specs.Conditions.{Domain}
-use Rattle.pyver_projects.specs.ProjectStrings.{Section, ProjectString, includes, Build, Dependencies, Environment, Extra, Group, Inclusion}
+use Rattle.pyver_projects.specs.ProjectStrings.{Section, ProjectString, Build, Dependencies, Extra, Group, Inclusion}
 use Rattle.pyver_projects.specs.ProjectTables.{has_group_tool, overridden_names, project_names, sources}
+use Rattle.pyver_requirements.specs.MarkerReading.{marker as read_marker}
 use Rattle.pyver_requirements.specs.declared.cause.Cause.{Cause}
 use Rattle.pyver_requirements.specs.declared.cause.Cause.TheVariants as cause
 
@@ -91,35 +89,14 @@ not_lacking : (b : Bool) (fs : List Finding) → b ≡ false → (if b then [] e
 not_lacking true fs unlike e = absurd (true≢false unlike)
 not_lacking false fs unlike e = e
 
--- what has the hash, if it is known
-abbrev SomeHash : List ℕ → List (List ℕ) → Type 0
-SomeHash value texts = (text : List ℕ) × Contains texts text × (is_known_text text ≡ true → value ≡ hash_of text)
-
-known_so : (b c : Bool) → (not b || c) ≡ true → b ≡ true → c ≡ true
-known_so true c e known = e
-known_so false c e known = absurd (true≢false (sym known))
-
-some_hash_by : (value text : List ℕ) (texts : List (List ℕ)) (b : Bool) → may_have value text ≡ b → (b || list_any (may_have value) texts) ≡ true → (list_any (may_have value) texts ≡ true → SomeHash value texts) → SomeHash value (text ∷ texts)
-some_hash_by value text texts true is e later =
-    (text, (zero, omega arith, refl), λ known. (bytes_eq-Decides value (hash_of text)).0 (known_so (is_known_text text) (bytes_eq value (hash_of text)) is known))
-some_hash_by value text texts false is e later = let (found, (k, inside, at), has) = later e in (found, (suc k, omega (arith, inside), at), has)
-
-some_hash : (value : List ℕ) (texts : List (List ℕ)) → list_any (may_have value) texts ≡ true → SomeHash value texts
-some_hash value [] e = absurd (true≢false (sym e))
-some_hash value (text ∷ texts) e = some_hash_by value text texts (may_have value text) refl e (some_hash value texts)
-
-not_stale : (lock : File) (hash : ContentHash) (b : Bool) → (if not b then stale_finding lock hash.rule ∷ [] else []) ≡ [] → b ≡ true
-not_stale lock hash true e = refl
-not_stale lock hash false e = cc e
-
 -- nothing is found in a project beside the lock in its folder
-module _ (documents : List Document) (zs : List DocumentReading) (h : AllZip IsDocumentReading documents zs) (found : flat_map (beside_all (is_excused zs) documents (zip documents zs)) (zip documents zs) ≡ []) (file lock : File) (kind : LockKind) (l : LockContents) (t : Members) where
+module _ (documents : List Document) (zs : List DocumentReading) (h : AllZip IsDocumentReading documents zs) (found : flat_map (beside_all (is_excused zs) (zip documents zs)) (zip documents zs) ≡ []) (file lock : File) (kind : LockKind) (l : LockContents) (t : Members) where
   abbrev Nothing : Type 0
   Nothing = (xs : List StringReading) × (es : List LineMeaning) × AllZip (IsStringReading (groups t) file) (sources t) xs × AllZip (IsRequirementReading lock.name) l.entries es
       × (python : Option Segments) × AreLockedPythons l.parts.python python
-      × (stale_by lock t l.parts.hash ++ (python_difference lock (project_python xs) python ++ (if is_plain_for_uv t then differing (replaced_names t (project_names t)) xs es else [])) ≡ [])
+      × (python_difference lock (project_python xs) python ++ (if is_plain_for_uv t then differing (replaced_names t (project_names t)) xs es else []) ≡ [])
 
-  nothing_stale : HasProject documents file t → HasLock documents kind lock l → is_beside documents (record { kind = Project; file = file }) (record { kind = Lock kind; file = lock }) ≡ true → folder file.name ≡ folder lock.name → Nothing
+  nothing_stale : HasProject documents file t → HasLock documents kind lock l → belongs l.parts lock.name file.name ≡ true → folder file.name ≡ folder lock.name → Nothing
   nothing_stale ((k, inside, at), table) ((m, below, there), other) beside near =
       let project : Document = record { kind = Project; file = file } in
       let locked : Document = record { kind = Lock kind; file = lock } in
@@ -130,24 +107,17 @@ module _ (documents : List Document) (zs : List DocumentReading) (h : AllZip IsD
       let (python, pythons, ys, ms, os, es, fs, q, required, optional, entered, files, is_lock) = lock_read lock kind l y other ry in
       let nothing : stale_in_pair (project, x) (locked, y) ≡ [] =
       left_nil (stale_in_pair (project, x) (locked, y)) (found_beside (is_excused zs) (in_one_folder project locked) (Lock kind) x y)
-      (counted (is_beside documents project locked) (stale_in_pair (project, x) (locked, y) ++ found_beside (is_excused zs) (in_one_folder project locked) (Lock kind) x y) beside
-      (nil_at (found_in_pair (is_excused zs) documents (project, x)) pairs (locked, y) b in_y is_y (nil_at (beside_all (is_excused zs) documents pairs) pairs (project, x) a in_x is_x found))) in
+      (counted (is_beside file.name lock.name y) (stale_in_pair (project, x) (locked, y) ++ found_beside (is_excused zs) (in_one_folder project locked) (Lock kind) x y) (ap (is_beside file.name lock.name) is_lock ∙ beside)
+      (nil_at (found_in_pair (is_excused zs) (project, x)) pairs (locked, y) b in_y is_y (nil_at (beside_all (is_excused zs) pairs) pairs (project, x) a in_x is_x found))) in
       let here : stale_beside lock x y ≡ [] = counted (in_one_folder project locked) (stale_beside lock x y) ((bytes_eq-Decides (folder file.name) (folder lock.name)).1 near) nothing in
       (xs, es, g, entered, python, pythons, (λ e. stale_beside lock (sym is_project e) (sym is_lock e)) ∙ here)
 
-  nothing_differs : AreTogether documents file t lock kind l → is_beside documents (record { kind = Project; file = file }) (record { kind = Lock kind; file = lock }) ≡ true
+  nothing_differs : AreTogether documents file t lock kind l → belongs l.parts lock.name file.name ≡ true
       → (xs : List StringReading) × (es : List LineMeaning) × AllZip (IsStringReading (groups t) file) (sources t) xs × AllZip (IsRequirementReading lock.name) l.entries es × (differing (replaced_names t (project_names t)) xs es ≡ [])
   nothing_differs are beside =
       let (xs, es, g, entered, python, pythons, nothing) = nothing_stale are.has are.known beside are.beside in
       let requirements = if is_plain_for_uv t then differing (replaced_names t (project_names t)) xs es else [] in
-      let later : python_difference lock (project_python xs) python ++ requirements ≡ [] = right_nil (stale_by lock t l.parts.hash) (python_difference lock (project_python xs) python ++ requirements) nothing in
-      (xs, es, g, entered, counted (is_plain_for_uv t) (differing (replaced_names t (project_names t)) xs es) are.plain (right_nil (python_difference lock (project_python xs) python) requirements later))
-
-all_fresh : (documents : List Document) (zs : List DocumentReading) → AllZip IsDocumentReading documents zs → flat_map (beside_all (is_excused zs) documents (zip documents zs)) (zip documents zs) ≡ [] → AllFresh documents
-all_fresh documents zs h found file lock kind l t hash has known beside near written =
-    let (xs, es, g, entered, python, pythons, nothing) = nothing_stale documents zs h found file lock kind l t has known beside near in
-    let fresh : stale_by lock t l.parts.hash ≡ [] = left_nil (stale_by lock t l.parts.hash) (python_difference lock (project_python xs) python ++ (if is_plain_for_uv t then differing (replaced_names t (project_names t)) xs es else [])) nothing in
-    some_hash hash.value (hashed_texts hash.rule t) (not_stale lock hash (list_any (may_have hash.value) (hashed_texts hash.rule t)) (ap (stale_by lock t) (sym written) ∙ fresh))
+      (xs, es, g, entered, counted (is_plain_for_uv t) (differing (replaced_names t (project_names t)) xs es) are.plain (right_nil (python_difference lock (project_python xs) python) requirements nothing))
 
 -- where none differs, both are the same
 none_differs : (a b : Bool) → (if a then not b else b) ≡ false → a ≡ b
@@ -160,12 +130,12 @@ first_nil : (lock : File) (found : Option ℕ) → first_difference lock found �
 first_nil lock None e = refl
 first_nil lock (Some k) e = cc e
 
-all_of_one_python : (documents : List Document) (zs : List DocumentReading) → AllZip IsDocumentReading documents zs → flat_map (beside_all (is_excused zs) documents (zip documents zs)) (zip documents zs) ≡ [] → AllOfOnePython documents
+all_of_one_python : (documents : List Document) (zs : List DocumentReading) → AllZip IsDocumentReading documents zs → flat_map (beside_all (is_excused zs) (zip documents zs)) (zip documents zs) ≡ [] → AllOfOnePython documents
 all_of_one_python documents zs h found file lock kind l t own locked k has known beside near have within =
     let (xs, es, g, entered, python, pythons, nothing) = nothing_stale documents zs h found file lock kind l t has known beside near in
     let requirements = if is_plain_for_uv t then differing (replaced_names t (project_names t)) xs es else [] in
     let none : python_difference lock (project_python xs) python ≡ [] =
-    left_nil (python_difference lock (project_python xs) python) requirements (right_nil (stale_by lock t l.parts.hash) (python_difference lock (project_python xs) python ++ requirements) nothing) in
+    left_nil (python_difference lock (project_python xs) python) requirements nothing in
     let one : xs ≡ have.readings = zip_once (IsStringReading (groups t) file) (Contains (sources t)) (λ s v w known n o. one_string (groups t) file s v w n o) (sources t) xs have.readings (All-contains_itself (sources t)) g have.read in
     let of_project : project_python xs ≡ Some own = ap project_python one ∙ have.project in
     let of_lock : python ≡ Some locked = one_locked_set l.parts.python python (Some locked) pythons have.lock in
@@ -173,12 +143,12 @@ all_of_one_python documents zs h found file lock kind l t own locked k has known
     none_differs (contains record_cmp own (python_record k)) (contains record_cmp locked (python_record k))
     (none_so (is_in_one own locked) python_minors k within (first_nil lock (find (is_in_one own locked) python_minors) same))
 
-all_entered : (documents : List Document) (zs : List DocumentReading) → AllZip IsDocumentReading documents zs → flat_map (beside_all (is_excused zs) documents (zip documents zs)) (zip documents zs) ≡ [] → AllEntered documents
+all_entered : (documents : List Document) (zs : List DocumentReading) → AllZip IsDocumentReading documents zs → flat_map (beside_all (is_excused zs) (zip documents zs)) (zip documents zs) ≡ [] → AllEntered documents
 all_entered documents zs h found file lock kind l t s n are beside some within counts requires other =
     let (xs, es, g, entries, nothing) = nothing_differs documents zs h found file lock kind l t are beside in
     entered (groups t) file lock (replaced_names t (project_names t)) (sources t) l.entries xs g es entries nothing s n within some counts requires other
 
-all_required : (documents : List Document) (zs : List DocumentReading) → AllZip IsDocumentReading documents zs → flat_map (beside_all (is_excused zs) documents (zip documents zs)) (zip documents zs) ≡ [] → AllRequired documents
+all_required : (documents : List Document) (zs : List DocumentReading) → AllZip IsDocumentReading documents zs → flat_map (beside_all (is_excused zs) (zip documents zs)) (zip documents zs) ≡ [] → AllRequired documents
 all_required documents zs h found file lock kind l t q list are beside within read plain other =
     let (xs, es, g, entries, nothing) = nothing_differs documents zs h found file lock kind l t are beside in
     required (groups t) file lock (replaced_names t (project_names t)) (sources t) l.entries xs g es entries nothing q list within read plain other
@@ -229,7 +199,7 @@ not_replaced documents s n zs h others true is =
     not_overridden documents (normal n.name) zs h (λ other u known. ap (λ b. b && list_any (bytes_eq (normal n.name)) (overridden_names u)) (sym is) ∙ others other u known)
 not_replaced documents s n zs h others false is = refl
 
-all_contained : (documents : List Document) (zs : List DocumentReading) → AllZip IsDocumentReading documents zs → flat_map (beside_all (is_excused zs) documents (zip documents zs)) (zip documents zs) ≡ [] → AllContained documents
+all_contained : (documents : List Document) (zs : List DocumentReading) → AllZip IsDocumentReading documents zs → flat_map (beside_all (is_excused zs) (zip documents zs)) (zip documents zs) ≡ [] → AllContained documents
 all_contained documents zs h found file lock kind l s p n v (t, ((k, inside, at), table), (i, within, here)) ((m, below, there), other) (j, under, this) beside counts has_it asks kept locks =
     let project : Document = record { kind = Project; file = file } in
     let locked : Document = record { kind = Lock kind; file = lock } in
@@ -241,17 +211,17 @@ all_contained documents zs h found file lock kind l s p n v (t, ((k, inside, at)
     let (python, pythons, ys, ms, os, es, fs, q, required, optional, entered, files, is_lock) = lock_read lock kind l y other ry in
     let nothing : found_beside (is_excused zs) near (Lock kind) x y ≡ [] =
     right_nil (stale_in_pair (project, x) (locked, y)) (found_beside (is_excused zs) near (Lock kind) x y)
-    (counted (is_beside documents project locked) (stale_in_pair (project, x) (locked, y) ++ found_beside (is_excused zs) near (Lock kind) x y) beside
-    (nil_at (found_in_pair (is_excused zs) documents (project, x)) pairs (locked, y) b in_y is_y (nil_at (beside_all (is_excused zs) documents pairs) pairs (project, x) a in_x is_x found))) in
+    (counted (is_beside file.name lock.name y) (stale_in_pair (project, x) (locked, y) ++ found_beside (is_excused zs) near (Lock kind) x y) (ap (is_beside file.name lock.name) is_lock ∙ beside)
+    (nil_at (found_in_pair (is_excused zs) (project, x)) pairs (locked, y) b in_y is_y (nil_at (beside_all (is_excused zs) pairs) pairs (project, x) a in_x is_x found))) in
     let compares : flat_map (compared kind l.parts (project_names t) (is_excused zs) near ys) xs ≡ [] =
     left_nil (flat_map (compared kind l.parts (project_names t) (is_excused zs) near ys) xs) (unmet_extras kind l.parts (is_excused zs) near ys os xs) ((λ e. found_beside (is_excused zs) near (Lock kind) (sym is_project e) (sym is_lock e)) ∙ nothing) in
     let (z, (c, in_z, is_z), rz) = beside_it (IsStringReading (groups t) file) (sources t) xs s i within here g in
-    let (plain, derives, (marker, has, everywhere), url) = asks in
-    let meaning = asks_so (string_line file s) n plain derives marker has url (groups t) s.text near s.section z.meaning counts rz.1 in
-    let asked = line_demand (string_line file s) marker n in
+    let (plain, derives, always, url) = asks in
+    let meaning = asks_so (string_line file s) n plain derives None (ap (option_map read_marker) always) url (groups t) s.text near s.section z.meaning counts rz.1 in
+    let asked = line_demand (string_line file s) None n in
     let both : missing kind l.parts (project_names t) ys s.section asked ++ excluded_in kind l.parts (project_names t) ys s.section asked ≡ [] =
     not_lacking (is_overridden (is_excused zs) s.section asked.name) (missing kind l.parts (project_names t) ys s.section asked ++ excluded_in kind l.parts (project_names t) ys s.section asked) (not_replaced documents s n zs h kept (is_standard s.section) refl)
-    (counted (is_asked_everywhere s.section marker) _ everywhere (not_compared kind l.parts (project_names t) (is_excused zs) near ys asked s.section z rz.0 meaning counts (nil_at (compared kind l.parts (project_names t) (is_excused zs) near ys) xs z c in_z is_z compares))) in
+    (not_compared kind l.parts (project_names t) (is_excused zs) near ys asked s.section z rz.0 meaning counts (nil_at (compared kind l.parts (project_names t) (is_excused zs) near ys) xs z c in_z is_z compares)) in
     not_excluded lock.name l.packages (string_line file s) n ys q p j under this v locks
     (not_lacking (leaves_out kind l.parts.names s.section) (excluded asked ys) has_it (right_nil (missing kind l.parts (project_names t) ys s.section asked) (excluded_in kind l.parts (project_names t) ys s.section asked) both))
 
@@ -289,7 +259,7 @@ module _ (documents : List Document) (zs : List DocumentReading) (h : AllZip IsD
         let none : excluded asked ys ≡ [] = right_nil (lacking (is_excused zs) l.parts ys asked) (excluded asked ys) both_nil in
         let always : q.is_reference ≡ false → unlocked l.parts ys (line_demand (requirement_line lock.name q) None n) ≡ [] =
         λ is. ap (λ b. unlocked l.parts ys (line_demand (requirement_line lock.name q) (reference_marker b) n)) (sym is) ∙ has_all in (
-          some_named lock.name l.packages (requirement_line lock.name q) n ys packages (left_nil (absent ys asked) (lacks_taken l.parts asked (taken_packages ys asked)) has_all),
+          some_named lock.name l.packages (requirement_line lock.name q) n ys packages (left_nil (absent ys asked) (lack_without_marker l.parts asked (taken_packages ys asked)) has_all),
           (λ k is inside. met_everywhere lock.name l.packages (requirement_line lock.name q) n ys packages l.parts (always is) none k inside),
         )
 
@@ -317,39 +287,6 @@ all_present documents zs h own lock file kind l t q list ((m, below, there), oth
     let nothing : flat_map invalid_package ys ++ (flat_map invalid_in faults ++ flat_map (unmet (is_excused zs) l.parts ys) ms) ≡ [] = ap (λ (e : DocumentReading). (own_report (is_excused zs) e).findings) (sym is_lock) ∙ nil_at (λ x. (own_report (is_excused zs) x).findings) zs y b in_y is_y own in
     let (z, r, none) = unmet_nil documents zs h lock l ys packages q i within here ms requirements (flat_map invalid_package ys) faults nothing in
     is_present documents zs h lock l ys packages q list d z r none (λ other u known. (others other u known).1) (not_excused documents (normal q.name) zs h (λ other u known. (others other u known).0) file t project unlike)
-
-all_extras_met : (documents : List Document) (zs : List DocumentReading) → AllZip IsDocumentReading documents zs → flat_map (beside_all (is_excused zs) documents (zip documents zs)) (zip documents zs) ≡ [] → AllExtrasMet documents
-all_extras_met documents zs h found file lock kind l o list ((m, below, there), other) (i, within, here) a d =
-    let project : Document = record { kind = Project; file = file } in
-    let locked : Document = record { kind = Lock kind; file = lock } in
-    let pairs = zip documents zs in
-    let near = in_one_folder project locked in
-    let ((k, inside, at), table) = a.has in
-    let t = a.table in
-    let (x, (c, in_x, is_x), rx) = beside_pair IsDocumentReading documents zs project k inside at h in
-    let (y, (b, in_y, is_y), ry) = beside_pair IsDocumentReading documents zs locked m below there h in
-    let (xs, g, is_project) = project_read file t x table rx in
-    let (python, pythons, ys, ms, os, es, fs, packages, required, optional, entered, files, is_lock) = lock_read lock kind l y other ry in
-    let nothing : found_beside (is_excused zs) near (Lock kind) x y ≡ [] =
-    right_nil (stale_in_pair (project, x) (locked, y)) (found_beside (is_excused zs) near (Lock kind) x y)
-    (counted (is_beside documents project locked) (stale_in_pair (project, x) (locked, y) ++ found_beside (is_excused zs) near (Lock kind) x y) a.counts
-    (nil_at (found_in_pair (is_excused zs) documents (project, x)) pairs (locked, y) b in_y is_y (nil_at (beside_all (is_excused zs) documents pairs) pairs (project, x) c in_x is_x found))) in
-    let none : unmet_extras kind l.parts (is_excused zs) near ys os xs ≡ [] =
-    right_nil (flat_map (compared kind l.parts (project_names t) (is_excused zs) near ys) xs) (unmet_extras kind l.parts (is_excused zs) near ys os xs) ((λ e. found_beside (is_excused zs) near (Lock kind) (sym is_project e) (sym is_lock e)) ∙ nothing) in
-    let not_replaced_by : (name : List ℕ) (u : Members) (other : File) → HasProject documents other u → list_any (bytes_eq name) (overridden_names u) ≡ false = λ name u other known. ap (list_any (bytes_eq name)) (a.kept other u known) in
-    let no_overrides : (name : List ℕ) → (is_excused zs name).overrides ≡ false = λ name. not_overridden documents name zs h (λ other u known. not_replaced_by name u other known) in
-    let same_excuse : is_excused zs ≡ (λ (name : List ℕ). record { lacks = (is_excused zs name).lacks; overrides = false }) = λ e name. record { lacks = (is_excused zs name).lacks; overrides = no_overrides name e } in
-    let same_strings : xs ≡ a.strings = zip_once (IsStringReading (groups t) file) (Contains (sources t)) (λ s v w known p q. one_string (groups t) file s v w p q) (sources t) xs a.strings (All-contains_itself (sources t)) g a.read in
-    let same_extras : os ≡ a.extras = zip_once (IsExtraReading lock.name) (Contains l.optional) (λ p v w known q r. one_extra lock.name p v w q r) l.optional os a.extras (All-contains_itself l.optional) optional a.required in
-    let (z, (e, in_z, is_z), r) = beside_it (IsExtraReading lock.name) l.optional os o i within here optional in
-    let asked : includes (project_asks kind l.parts (is_excused zs) near xs os) [] z.key ≡ true = (λ j. includes (project_asks kind l.parts (same_excuse j) near (same_strings j) (same_extras j)) [] (r.0 j)) ∙ a.asks in
-    let met : unmet (is_excused zs) l.parts ys z.meaning ≡ [] =
-    counted (includes (project_asks kind l.parts (is_excused zs) near xs os) [] z.key) (unmet (is_excused zs) l.parts ys z.meaning) asked
-    (nil_at (unmet_extra kind l.parts (is_excused zs) near (includes (project_asks kind l.parts (is_excused zs) near xs os) []) ys) os z e in_z is_z none) in
-    let kept = λ (other : File) (u : Members) (known : HasProject documents other u). not_replaced_by (normal o.requirement.name) u other known in (
-      contains_version documents zs h lock l ys packages o.requirement list d z.meaning r.1 met kept,
-      (λ others unlike. is_present documents zs h lock l ys packages o.requirement list d z.meaning r.1 met kept (not_excused documents (normal o.requirement.name) zs h others file t a.has unlike)),
-    )
 
 -- where nothing is found of both, nothing is of each
 front_nil : (fs gs : List LineMeaning) → flat_map invalid_in (fs ++ gs) ≡ [] → flat_map invalid_in fs ≡ []
@@ -393,26 +330,17 @@ all_alone documents zs h own lock kind l ((m, below, there), other) =
 
 pub no_finding_means_contained : NoFindingImpliesContained
 no_finding_means_contained documents r (zs, h, fs, cs, finds, is) none =
-    let compared = flat_map (beside_all (is_excused zs) documents (zip documents zs)) (zip documents zs) in
+    let compared = flat_map (beside_all (is_excused zs) (zip documents zs)) (zip documents zs) in
     let found : (with_own_reports (is_excused zs) empty_report zs).findings ++ compared ≡ [] = left_nil ((with_own_reports (is_excused zs) empty_report zs).findings ++ compared) fs (sym (ap (λ (e : Report). e.findings) is) ∙ none) in
     let own : flat_map (λ x. (own_report (is_excused zs) x).findings) zs ≡ [] = sym (findings_of documents (is_excused zs) empty_report zs) ∙ left_nil (with_own_reports (is_excused zs) empty_report zs).findings compared found in
     let beside : compared ≡ [] = right_nil (with_own_reports (is_excused zs) empty_report zs).findings compared found in
-    (all_contained documents zs h beside, (all_met documents zs h own, (all_present documents zs h own, (all_extras_met documents zs h beside, (all_of_version documents zs h own, (all_alone documents zs h own, (all_fresh documents zs h beside, (all_entered documents zs h beside, (all_required documents zs h beside, all_of_one_python documents zs h beside)))))))))
-
-left_true : (a b : Bool) → (a && b) ≡ true → a ≡ true
-left_true true b e = refl
-left_true false b e = absurd (true≢false (sym e))
-
-right_true : (a b : Bool) → (a && b) ≡ true → b ≡ true
-right_true true b e = e
-right_true false b e = absurd (true≢false (sym e))
+    (all_contained documents zs h beside, (all_met documents zs h own, (all_present documents zs h own, (all_of_version documents zs h own, (all_alone documents zs h own, (all_entered documents zs h beside, (all_required documents zs h beside, all_of_one_python documents zs h beside)))))))
 
 -- parts that are the same are equal
 same_is : (a b : Section) → same_part a b ≡ true → a ≡ b
 same_is Dependencies Dependencies e = refl
 same_is (Extra a) (Extra b) e = ap Extra ((bytes_eq-Decides a b).0 e)
 same_is (Group a) (Group b) e = ap Group ((bytes_eq-Decides a b).0 e)
-same_is (Environment j a) (Environment k b) e = (λ i. Environment ((booleans_Decides j k).0 (left_true (beq j k) (bytes_eq a b) e) i) ((bytes_eq-Decides a b).0 (right_true (beq j k) (bytes_eq a b) e) i))
 same_is Build Build e = refl
 same_is a b e = cc e
 

@@ -1,6 +1,6 @@
 -- Each finding of a report of documents is right, as are requirements of a project that have no version in common; documents that were read have
 -- lists that strings can give; and requirements that count always.
-use Rattle.std.proofs.Common.{Bool, List, None, Option, ap, true, ℕ, ◌∙◌, ◌≡◌, refl, subst, sym, [], ◌∷◌, false, if◌then◌else◌, not, ◌++◌, ◌+◌, map, Some, bytes_eq, codes, inl, inr, is_none, length, ◌||◌, take}
+use Rattle.std.proofs.Common.{Bool, List, None, Option, ap, true, ℕ, ◌∙◌, ◌≡◌, refl, subst, sym, [], ◌∷◌, false, if◌then◌else◌, not, ◌++◌, ◌+◌, map, Some, bytes_eq, codes, inl, inr, is_none, length, take}
 use Rattle.std.proofs.lemmas.Bool.{true≢false}
 use Rattle.std.proofs.lemmas.List.{append-nil, append_assoc}
 use Rattle.std.proofs.lemmas.List.Elements.{All-cons, All-nil, All-contains_itself, All-head, All-weaker, All-filter, All-tail, All-append, All-map}
@@ -17,12 +17,12 @@ use Rattle.pep440_version.specs.ErrorTexts.{rejection_text}
 use Rattle.pep440_version.specs.Key.{record_cmp}
 use Rattle.toml.specs.Data.{Members}
 use Rattle.toml.specs.Parse.{parse_document}
-use Rattle.pyver_documents.proofs.LockedPackages.{IsLackHere, IsOutsideHere, excluded_right, found_so, needed_packages, none_for, none_named, partly_right}
+use Rattle.pyver_documents.proofs.LockedPackages.{IsLackHere, IsOutsideHere, excluded_right, found_so, none_named, partly_right}
 use Rattle.pyver_documents.proofs.Once.{asks_by, AsksFor, of_section, differing_right}
-use Rattle.pyver_documents.proofs.Walks.{all_flat, zip_each, left_false, pairs_each, right_false}
-use Rattle.pyver_documents.specs.Comparing.{is_locked, extras_reason, is_for_demand, lacks_taken, lack_without_marker, project_asks, unmet_extra, unmet_extras, without_extras, Excuse, absent, beside_all, compared, compared_demand, differing, documents_report, excluded, excluded_in, is_asked_everywhere, missing, first_difference, found_beside, found_in_pair, has_name, invalid_package, invalid_string, is_beside, is_excused, is_in_one, is_installer, is_needed, is_overridden, is_plain_for_uv, in_one_folder, lacking, leaves_out, own_report, partly_locked, python_difference, python_finding, python_minors, replaced_names, stale_beside, stale_by, stale_finding, stale_in_pair, taken_packages, unlocked, unmet, unmet_demand, with_own_reports, FindsOfReading}
+use Rattle.pyver_documents.proofs.Walks.{all_flat, zip_each, pairs_each}
+use Rattle.pyver_documents.specs.Comparing.{is_locked, lack_without_marker, project_asks, unmet_extra, unmet_extras, Excuse, absent, beside_all, compared, compared_demand, differing, documents_report, excluded, excluded_in, missing, first_difference, found_beside, found_in_pair, has_name, invalid_package, invalid_string, is_beside, is_excused, is_in_one, is_installer, is_needed, is_overridden, is_plain_for_uv, in_one_folder, lacking, leaves_out, own_report, partly_locked, python_difference, python_finding, python_minors, replaced_names, stale_beside, stale_in_pair, taken_packages, unlocked, unmet, unmet_demand, with_own_reports, FindsOfReading}
 use Rattle.pyver_documents.specs.DocumentKinds.{locked}
-use Rattle.pyver_documents.specs.DocumentLaws.{line_in_part, IsRightPart, extras_of, part_lines, AsksOn, IsRequired, needed_by, AlwaysAsks, AsksEverywhere, AreTogether, HasLock, HasOtherHash, HasPackage, HasProject, IsDocumentFinding, IsReadable, IsReadableAs, DocumentFindingsHold}
+use Rattle.pyver_documents.specs.DocumentLaws.{line_in_part, IsRightPart, extras_of, part_lines, IsRequired, needed_by, AlwaysAsks, AreTogether, HasLock, HasPackage, HasProject, IsDocumentFinding, IsReadable, IsReadableAs, DocumentFindingsHold}
 use Rattle.pyver_documents.specs.Meanings.{Groups, IsSectionMeaning, left_out_if_none, IsSoundString, IsStringReading, StringReading, string_line, extra_inclusions, groups, inclusions, ExtraReading, IsExtraReading, AreLockedPythons, Document, DocumentReading, IsBroken, IsBrokenReading, IsDocumentReading, IsFileReading, IsLock, IsLockedReading, IsProject, IsRequirementReading, IsVersionReading, LockedReading, fault_meaning, file_meaning, is_of_version, package_line, reference_marker, requirement_line, position_line, last_bytes, IsSoundDocument}
 use Rattle.pyver_documents.specs.Together.{demand_in_part, holds_in, is_replaced, has_extra, has_group, part_demands, sections, same_finding, with_new, FindsOfPart, FindsOfParts, parts, project_domain, project_python}
 use Rattle.pyver_documents.specs.declared.document_kind.DocumentKind.{DocumentKind}
@@ -35,15 +35,13 @@ use Rattle.pyver_findings.specs.LineMeanings.{Asks, IsPartsMeaning, IsPlain, Lin
 use Rattle.pyver_findings.specs.MarkedConflicts.{FindsOfEach}
 use Rattle.pyver_findings.specs.NamedFiles.{folder}
 use Rattle.pyver_findings.specs.Reports.{demands_in, Report, empty_report, invalid_in, joined_report}
-use Rattle.pyver_locks.specs.ContentHashes.{hash_of, hashed_texts, is_known_text, is_stale, may_have}
 use Rattle.pyver_locks.specs.KnownEnvironments.{python_record}
-use Rattle.pyver_locks.specs.LockContents.{LockedExtra, ContentHash, LockContents, LockFault, LockParts, LockedFile, LockedPackage, LockedRequirement}
+use Rattle.pyver_locks.specs.LockContents.{LockedExtra, LockContents, LockFault, LockParts, LockedFile, LockedPackage, LockedRequirement}
 use Rattle.pyver_locks.specs.declared.lock_kind.LockKind.{LockKind}
-use Rattle.pyver_projects.specs.ProjectStrings.{Build, Constraint, Dependencies, Entry, Environment, Extra, Group, Include, Invalid, OwnExtras, Python, Section, Unread, Version, ProjectString, Inclusion, includes}
+use Rattle.pyver_projects.specs.ProjectStrings.{Build, Constraint, Dependencies, Entry, Extra, Group, Include, Invalid, OwnExtras, Python, Section, Unread, Version, ProjectString, Inclusion, includes}
 use Rattle.pyver_projects.specs.ProjectTables.{has_group_tool, overridden_names, sources, project_names}
 use Rattle.pyver_requirements.specs.LineParts.{line_parts}
 use Rattle.pyver_requirements.specs.declared.cause.Cause.{Cause}
-use Rattle.pyver_projects.specs.declared.project.EntryTool.TheVariants as of_entries
 
 module _ (line : FileLine) (n : Needed) (plain : IsPlain (line_parts line.text).requirement) (d : DerivesRequirement (line_parts line.text).requirement n) (m : Option (List ℕ)) (has : HasMarker (line_parts line.text) m) (url : (line_parts line.text).url ≡ None) where
   of_its_requirement : (x : LineMeaning) → IsPartsMeaning line (line_parts line.text) x → x ≡ Asks (line_demand line m n)
@@ -58,9 +56,7 @@ module _ (line : FileLine) (n : Needed) (plain : IsPlain (line_parts line.text).
   asks_so all text near (Invalid table reason) x counts is = cc counts
   asks_so all text near Constraint x counts is = of_its_requirement x is
   asks_so all text near (OwnExtras asker extras) x counts is = cc counts
-  asks_so all text near (Environment is_installed table) x counts is = cc counts
-  asks_so all text near (Entry of_entries.Poetry table name) x counts (y, is, e) = e ∙ ap left_out_if_none (of_its_requirement y is)
-  asks_so all text near (Entry of_entries.Pipenv table name) x counts is = of_its_requirement x is
+  asks_so all text near (Entry table name) x counts (y, is, e) = e ∙ ap left_out_if_none (of_its_requirement y is)
   asks_so all text near (Unread c) x counts is = cc counts
   asks_so all text near Build x counts is = cc counts
   asks_so all text near Python x counts is = cc counts
@@ -211,7 +207,7 @@ module _ (documents : List Document) where
   of_string file t s (LeftOut c) has at is = All-nil Right
   of_string file t s AsksNothing has at is = All-nil Right
 
-  of_package : (file : File) (p : LockedPackage) (v : Option (List ℕ)) (y : LockedReading) → HasPackage documents file p → p.version ≡ v → IsVersionReading (package_line file.name p) p.name p.extras y.condition v y → All Right (invalid_package y)
+  of_package : (file : File) (p : LockedPackage) (v : Option (List ℕ)) (y : LockedReading) → HasPackage documents file p → p.version ≡ v → IsVersionReading (package_line file.name p) p.name y.condition v y → All Right (invalid_package y)
   of_package file p None y has at is = subst (λ (z : LockedReading). All Right (invalid_package z)) (sym is) (All-nil Right)
   of_package file p (Some text) y has at (inl (r, d, is)) = subst (λ (z : LockedReading). All Right (invalid_package z)) (sym is) (All-nil Right)
   of_package file p (Some text) y has at (inr (f, r, is)) =
@@ -225,30 +221,6 @@ module _ (documents : List Document) where
   when_right : (b : Bool) (fs : List Finding) → All Right fs → All Right (if b then fs else [])
   when_right true fs k = k
   when_right false fs k = All-nil Right
-
-  -- extras that a requirement asks for
-  extra_right : (lock : File) (kind : LockKind) (l : LockContents) → HasLock documents kind lock l → (n : Needed) (line : FileLine) (m : Option (List ℕ)) → AsksOn documents kind lock l n line → (ys : List LockedReading)
-      → AllZip (IsLockedReading lock.name) l.packages ys
-      → All Right (without_extras (line_demand line m n) (taken_packages ys (line_demand line m n)) (filter (is_for_demand l.parts (line_demand line m n)) (taken_packages ys (line_demand line m n))))
-  extra_right lock kind l known n line m asks ys h =
-      by_lists (taken_packages ys (line_demand line m n)) (filter (is_for_demand l.parts (line_demand line m n)) (taken_packages ys (line_demand line m n))) refl
-    where
-      by_lists : (taken needed : List LockedReading) → filter (is_for_demand l.parts (line_demand line m n)) (taken_packages ys (line_demand line m n)) ≡ needed → All Right (without_extras (line_demand line m n) taken needed)
-      by_lists [] needed is = All-nil Right
-      by_lists (y ∷ taken) (z ∷ needed) is = All-nil Right
-      by_lists (y ∷ taken) [] is =
-          All-cons Right (NoRequirement line (extras_reason (map normal n.extras)) 0) []
-          (inr (inr (inr (inr (inr (inr (inr (inr (inr (inr (inr (inr (inr (inr (inr (inr (record {
-            lock = lock;
-            kind = kind;
-            contents = l;
-            needed = n;
-            line = line;
-            known = known;
-            asks = asks;
-            none = none_for lock.name l.packages line n l.parts ys h is;
-            is = refl;
-          }))))))))))))))))) (All-nil Right)
 
   absent_right : (lock : File) (kind : LockKind) (l : LockContents) → HasLock documents kind lock l → (q : LockedRequirement) → IsRequired documents kind lock l q → (ys : List LockedReading) → AllZip (IsLockedReading lock.name) l.packages ys
       → (n : Needed) (b : Bool) → n.name ≡ q.name → list_any (has_name (line_demand (requirement_line lock.name q) None n)) ys ≡ b
@@ -299,7 +271,7 @@ module _ (documents : List Document) where
   -- a requirement of a package that does not only refer to another one
   lack_right : (lock : File) (kind : LockKind) (l : LockContents) → HasLock documents kind lock l → (q : LockedRequirement) → IsRequired documents kind lock l q → (ys : List LockedReading) → AllZip (IsLockedReading lock.name) l.packages ys
       → (list : List Spec) → DerivesList q.list list → (b : Bool) → q.is_reference ≡ b
-      → All Right (if is_none (reference_marker b) then partly_locked l.parts (requirement_line lock.name q) (needed_packages l.parts ys (line_demand (requirement_line lock.name q) None (needed_by q list))) else [])
+      → All Right (if is_none (reference_marker b) then partly_locked l.parts (requirement_line lock.name q) (taken_packages ys (line_demand (requirement_line lock.name q) None (needed_by q list))) else [])
   lack_right lock kind l known q at ys h list read true is = All-nil Right
   lack_right lock kind l known q at ys h list read false is =
       let n : Needed = needed_by q list in
@@ -317,7 +289,7 @@ module _ (documents : List Document) where
         always = is;
         lack = lack;
       })))))))))))))
-      (partly_locked l.parts line (needed_packages l.parts ys (line_demand line None n))) (partly_right lock.name l.packages line n ys h l.parts)
+      (partly_locked l.parts line (taken_packages ys (line_demand line None n))) (partly_right lock.name l.packages line n ys h l.parts)
 
   -- a requirement of a package
   of_requirement : (lock : File) (kind : LockKind) (l : LockContents) → HasLock documents kind lock l → (q : LockedRequirement) → IsRequired documents kind lock l q → (ys : List LockedReading) → AllZip (IsLockedReading lock.name) l.packages ys
@@ -332,10 +304,8 @@ module _ (documents : List Document) where
       (unless_right (excused asked.name).overrides (lacking excused l.parts ys asked ++ excluded asked ys)
       (All-append Right (lacking excused l.parts ys asked) (excluded asked ys)
       (unless_right (excused asked.name).lacks (unlocked l.parts ys asked)
-      (All-append Right (absent ys asked) (lacks_taken l.parts asked (taken_packages ys asked))
-      (absent_right lock kind l known q at ys h n (list_any (has_name asked) ys) refl refl)
-      (All-append Right (without_extras asked (taken_packages ys asked) (needed_packages l.parts ys asked)) (lack_without_marker l.parts asked (needed_packages l.parts ys asked))
-      (extra_right lock kind l known n line (reference_marker q.is_reference) (inr (q, list, at, refl, refl)) ys h) (lack_right lock kind l known q at ys h list read q.is_reference refl))))
+      (All-append Right (absent ys asked) (lack_without_marker l.parts asked (taken_packages ys asked))
+      (absent_right lock kind l known q at ys h n (list_any (has_name asked) ys) refl refl) (lack_right lock kind l known q at ys h list read q.is_reference refl)))
       (All-weaker (IsOutsideHere lock.name l.packages line n) Right
       (λ f out. inr (inr (inr (inr (inr (inr (inl (record { lock = lock; kind = kind; contents = l; requirement = q; list = list; known = known; within = at; read = read; outside = out })))))))) (excluded asked ys)
       (excluded_right lock.name l.packages line n ys h)))) (All-nil Right))
@@ -378,18 +348,17 @@ module _ (documents : List Document) where
 
   module _ (excused : List ℕ → Excuse) (near : Bool) (file lock : File) (kind : LockKind) (t : Members) (u : LockContents) (known : HasProject documents file t) (other : HasLock documents kind lock u) where
     module _ (s : ProjectString) (at : Contains (sources t) s) where
-      module _ (n : Needed) (marker : Option (List ℕ)) (asks : AsksEverywhere s n) (always : marker ≡ None → AlwaysAsks s n) where
+      module _ (n : Needed) (asks : AlwaysAsks s n) where
         -- what the requirement asks for
         abbrev pub asked : Demand
-        asked = line_demand (string_line file s) marker n
+        asked = line_demand (string_line file s) None n
 
         excludes : leaves_out kind u.parts.names s.section ≡ false → (f : Finding) → IsOutsideHere lock.name u.packages (string_line file s) n f → Right f
         excludes within f out = inr (inr (inr (inr (inl (record { file = file; string = s; lock = lock; kind = kind; contents = u; needed = n; has = (t, known, at); counts = within; asks = asks; known = other; outside = out })))))
 
         module _ (ys : List LockedReading) (h : AllZip (IsLockedReading lock.name) u.packages ys) where
-          partly_missing : is_needed kind u.parts.names s.section ≡ true → (m : Option (List ℕ)) → marker ≡ m → All Right (if is_none m then partly_locked u.parts (string_line file s) (needed_packages u.parts ys asked) else [])
-          partly_missing needs (Some m) is = All-nil Right
-          partly_missing needs None is =
+          partly_missing : is_needed kind u.parts.names s.section ≡ true → All Right (partly_locked u.parts (string_line file s) (taken_packages ys asked))
+          partly_missing needs =
               All-weaker (IsLackHere lock.name u.packages (string_line file s) n u.parts) Right
               (λ f lack. inr (inr (inr (inr (inr (inr (inr (inr (inr (inr (inl (record {
                 file = file;
@@ -400,11 +369,11 @@ module _ (documents : List Document) where
                 needed = n;
                 has = (t, known, at);
                 counts = needs;
-                asks = always is;
+                asks = asks;
                 known = other;
                 lack = lack;
               }))))))))))))
-              (partly_locked u.parts (string_line file s) (needed_packages u.parts ys asked)) (partly_right lock.name u.packages (string_line file s) n ys h u.parts)
+              (partly_locked u.parts (string_line file s) (taken_packages ys asked)) (partly_right lock.name u.packages (string_line file s) n ys h u.parts)
 
           absent_here : (c : Bool) → is_needed kind u.parts.names s.section ≡ true → list_any (has_name asked) ys ≡ c
               → All Right (if c then [] else NoRequirement (string_line file s) (codes "the lock has no package of this name") 0 ∷ [])
@@ -429,9 +398,7 @@ module _ (documents : List Document) where
           missing_right : (b : Bool) → is_needed kind u.parts.names s.section ≡ b → All Right (if b then unlocked u.parts ys asked else [])
           missing_right false needs = All-nil Right
           missing_right true needs =
-              All-append Right (absent ys asked) (lacks_taken u.parts asked (taken_packages ys asked)) (absent_here (list_any (has_name asked) ys) needs refl)
-              (All-append Right (without_extras asked (taken_packages ys asked) (needed_packages u.parts ys asked)) (lack_without_marker u.parts asked (needed_packages u.parts ys asked))
-              (extra_right lock kind u other n (string_line file s) marker (inl (file, s, (t, known, at), needs, asks, refl)) ys h) (partly_missing needs marker refl))
+              All-append Right (absent ys asked) (lack_without_marker u.parts asked (taken_packages ys asked)) (absent_here (list_any (has_name asked) ys) needs refl) (partly_missing needs)
 
           excluded_here : (b : Bool) → leaves_out kind u.parts.names s.section ≡ b → All Right (if b then [] else excluded asked ys)
           excluded_here true within = All-nil Right
@@ -449,13 +416,13 @@ module _ (documents : List Document) where
               (excluded_here (leaves_out kind u.parts.names s.section) refl))
 
       module _ (ys : List LockedReading) (h : AllZip (IsLockedReading lock.name) u.packages ys) where
-        by_marker : (a : Demand) (k : AsksFor (string_line file s) (line_parts s.text) a) (b : Bool) → is_asked_everywhere s.section k.marker ≡ b
-            → All Right (if b then (if is_overridden excused s.section (normal k.needed.name) then [] else missing kind u.parts (project_names t) ys s.section (line_demand (string_line file s) k.marker k.needed) ++ excluded_in kind u.parts (project_names t) ys s.section (line_demand (string_line file s) k.marker k.needed)) else [])
-        by_marker a k true counts = everywhere_right k.needed k.marker (k.text, k.derives, (k.marker, k.has, counts), k.url) (λ is. (k.text, k.derives, k.always is, k.url)) ys h
-        by_marker a k false counts = All-nil Right
+        by_marker : (a : Demand) (k : AsksFor (string_line file s) (line_parts s.text) a) (m : Option (List ℕ)) → k.marker ≡ m
+            → All Right (if is_none m then (if is_overridden excused s.section (normal k.needed.name) then [] else missing kind u.parts (project_names t) ys s.section (line_demand (string_line file s) m k.needed) ++ excluded_in kind u.parts (project_names t) ys s.section (line_demand (string_line file s) m k.needed)) else [])
+        by_marker a k None is = everywhere_right k.needed (k.text, k.derives, k.always is, k.url) ys h
+        by_marker a k (Some m) is = All-nil Right
 
         of_asked : (a : Demand) → AsksFor (string_line file s) (line_parts s.text) a → All Right (compared_demand kind u.parts (project_names t) excused near ys s.section a)
-        of_asked a k = subst (λ (b : Demand). All Right (compared_demand kind u.parts (project_names t) excused near ys s.section b)) (sym k.is) (by_marker a k (is_asked_everywhere s.section k.marker) refl)
+        of_asked a k = subst (λ (b : Demand). All Right (compared_demand kind u.parts (project_names t) excused near ys s.section b)) (sym k.is) (by_marker a k k.marker refl)
 
         of_meaning : (m : LineMeaning) → IsSectionMeaning (groups t) s.section (string_line file s) s.text m → All Right (flat_map (compared_demand kind u.parts (project_names t) excused near ys s.section) (demands_in m))
         of_meaning (Asks a) is = All-append Right (compared_demand kind u.parts (project_names t) excused near ys s.section a) [] (of_asked a (of_section (groups t) (string_line file s) s.text a s.section is)) (All-nil Right)
@@ -537,45 +504,7 @@ module _ (documents : List Document) where
     beside_right Project file other x y known at (inr (text, inl (t, e, (xs, h, is)))) r =
         subst (λ (z : DocumentReading). All Right (found_beside excused near other.kind z y)) (sym is) (beside_project file t (known, (text, e)) xs h other.kind other.file y at r)
 
-  -- ---- the hash of a project in a lock
-
-  other_known : (b c : Bool) → (not b || c) ≡ false → (b ≡ true) × (c ≡ false)
-  other_known true c e = (refl, e)
-  other_known false c e = absurd (true≢false e)
-
-  -- none of the texts has the hash
-  other_hashes : (value : List ℕ) (texts : List (List ℕ)) → list_any (may_have value) texts ≡ false → All (HasOtherHash value) texts
-  other_hashes value [] e = All-nil (HasOtherHash value)
-  other_hashes value (text ∷ texts) e =
-      let (known, other) = other_known (is_known_text text) (bytes_eq value (hash_of text)) (left_false (may_have value text) (list_any (may_have value) texts) e) in
-      All-cons (HasOtherHash value) text texts (known, λ same. true≢false (sym ((bytes_eq-Decides value (hash_of text)).1 same) ∙ other))
-      (other_hashes value texts (right_false (may_have value text) (list_any (may_have value) texts) e))
-
-  none_passes : (b : Bool) → not b ≡ true → b ≡ false
-  none_passes true e = absurd (true≢false (sym e))
-  none_passes false e = refl
-
-  module _ (file lock : File) (kind : LockKind) (t : Members) (l : LockContents) (known : HasProject documents file t) (has : HasLock documents kind lock l) (near : folder file.name ≡ folder lock.name) where
-    stale_hash : (hash : ContentHash) → l.parts.hash ≡ Some hash → (b : Bool) → is_stale hash t ≡ b → All Right (if b then stale_finding lock hash.rule ∷ [] else [])
-    stale_hash hash written true is = All-cons Right (stale_finding lock hash.rule) [] (inr (inr (inr (inr (inr (inr (inr (inr (inr (inr (inr (inr (inl (record {
-      file = file;
-      table = t;
-      lock = lock;
-      kind = kind;
-      contents = l;
-      hash = hash;
-      has = known;
-      known = has;
-      beside = near;
-      written = written;
-      none = other_hashes hash.value (hashed_texts hash.rule t) (none_passes (list_any (may_have hash.value) (hashed_texts hash.rule t)) is);
-      is = refl;
-    })))))))))))))) (All-nil Right)
-    stale_hash hash written false is = All-nil Right
-
-    stale_right : (hash : Option ContentHash) → l.parts.hash ≡ hash → All Right (stale_by lock t hash)
-    stale_right None written = All-nil Right
-    stale_right (Some hash) written = stale_hash hash written (is_stale hash t) refl
+  -- ---- a lock beside the project in its folder
 
   one_differs : (a b : Bool) → (if a then not b else b) ≡ true → a ≡ b → ⊥
   one_differs true true e same = true≢false (sym e)
@@ -587,7 +516,7 @@ module _ (documents : List Document) where
   module _ (file lock : File) (kind : LockKind) (t : Members) (l : LockContents) (known : HasProject documents file t) (has : HasLock documents kind lock l) (near : folder file.name ≡ folder lock.name) (xs : List StringReading) (g : AllZip (IsStringReading (groups t) file) (sources t) xs) (python : Option Segments) (pythons : AreLockedPythons l.parts.python python) where
     first_right : (own locked : Segments) → project_python xs ≡ Some own → python ≡ Some locked → (found : Option ℕ) → find (is_in_one own locked) python_minors ≡ found → All Right (first_difference lock found)
     first_right own locked of_project of_lock None found = All-nil Right
-    first_right own locked of_project of_lock (Some k) found = All-cons Right (python_finding lock k) [] (inr (inr (inr (inr (inr (inr (inr (inr (inr (inr (inr (inr (inr (inr (inr (inl (record {
+    first_right own locked of_project of_lock (Some k) found = All-cons Right (python_finding lock k) [] (inr (inr (inr (inr (inr (inr (inr (inr (inr (inr (inr (inr (inr (inr (record {
       file = file;
       table = t;
       lock = lock;
@@ -602,7 +531,7 @@ module _ (documents : List Document) where
       have = record { readings = xs; read = g; project = of_project; lock = subst (AreLockedPythons l.parts.python) of_lock pythons };
       differ = one_differs (contains record_cmp own (python_record k)) (contains record_cmp locked (python_record k)) (found_so (is_in_one own locked) python_minors k found);
       is = refl;
-    }))))))))))))))))) (All-nil Right)
+    }))))))))))))))) (All-nil Right)
 
     difference_right : (own locked : Option Segments) → project_python xs ≡ own → python ≡ locked → All Right (python_difference lock own locked)
     difference_right (Some own) (Some locked) of_project of_lock = first_right own locked of_project of_lock (find (is_in_one own locked) python_minors) refl
@@ -614,8 +543,8 @@ module _ (documents : List Document) where
     differences true plain =
         let are : AreTogether documents file t lock kind l = record { has = known; known = has; beside = near; plain = plain } in
         differing_right Right (groups t) file lock (replaced_names t (project_names t)) (sources t) l.entries
-        (λ s n within counts requires none. inr (inr (inr (inr (inr (inr (inr (inr (inr (inr (inr (inr (inr (inl (record { file = file; table = t; string = s; needed = n; lock = lock; kind = kind; contents = l; are = are; within = within; counts = counts; requires = requires; none = none; is = refl })))))))))))))))
-        (λ q within none. inr (inr (inr (inr (inr (inr (inr (inr (inr (inr (inr (inr (inr (inr (inl (record { file = file; table = t; lock = lock; kind = kind; contents = l; requirement = q; are = are; within = within; none = none; is = refl }))))))))))))))))
+        (λ s n within counts requires none. inr (inr (inr (inr (inr (inr (inr (inr (inr (inr (inr (inr (inl (record { file = file; table = t; string = s; needed = n; lock = lock; kind = kind; contents = l; are = are; within = within; counts = counts; requires = requires; none = none; is = refl }))))))))))))))
+        (λ q within none. inr (inr (inr (inr (inr (inr (inr (inr (inr (inr (inr (inr (inr (inl (record { file = file; table = t; lock = lock; kind = kind; contents = l; requirement = q; are = are; within = within; none = none; is = refl })))))))))))))))
         xs es g h
     differences false plain = All-nil Right
 
@@ -633,10 +562,9 @@ module _ (documents : List Document) where
     project_fresh Project lock y near at (inr (text, inl (u, e, (zs, h, is)))) = subst (IsRightBeside lock) (sym is) (All-nil Right)
     project_fresh (Lock kind) lock y near at (inr (text, inl (u, e, (python, pythons, ys, ms, os, es, fs, h, required, optional, entered, files, is)))) =
         subst (IsRightBeside lock) (sym is)
-        (All-append Right (stale_by lock t u.parts.hash) (python_difference lock (project_python xs) python ++ (if is_plain_for_uv t then differing (replaced_names t (project_names t)) xs es else [])) (stale_right file lock kind t u known (at, (text, e)) near u.parts.hash refl)
         (All-append Right (python_difference lock (project_python xs) python) (if is_plain_for_uv t then differing (replaced_names t (project_names t)) xs es else [])
         (difference_right file lock kind t u known (at, (text, e)) near xs g python pythons (project_python xs) python refl refl)
-        (differences file lock kind t u known (at, (text, e)) near xs g es entered (is_plain_for_uv t) refl)))
+        (differences file lock kind t u known (at, (text, e)) near xs g es entered (is_plain_for_uv t) refl))
 
   broken_fresh : (lock file : File) (x y : DocumentReading) → IsBrokenReading file x → All Right (stale_beside lock x y)
   broken_fresh lock file x y (position, reason, is) = subst (λ (z : DocumentReading). All Right (stale_beside lock z y)) (sym is) (All-nil Right)
@@ -668,15 +596,15 @@ module _ (documents : List Document) where
   pub all_right : (xs : List DocumentReading) → AllZip IsDocumentReading documents xs → All Right (documents_report documents xs).findings
   all_right xs h =
       let pairs = zip documents xs in
-      All-append Right (with_own_reports (is_excused xs) empty_report xs).findings (flat_map (beside_all (is_excused xs) documents pairs) pairs)
+      All-append Right (with_own_reports (is_excused xs) empty_report xs).findings (flat_map (beside_all (is_excused xs) pairs) pairs)
       (subst (λ fs. All Right fs) (sym (findings_of (is_excused xs) empty_report xs))
       (all_flat Right (λ x. (own_report (is_excused xs) x).findings) xs
       (zip_each IsDocumentReading (Contains documents) (λ x. All Right (own_report (is_excused xs) x).findings) (λ d x known r. of_document (is_excused xs) d.kind d.file x known r) documents xs (All-contains_itself documents) h)))
-      (all_flat Right (beside_all (is_excused xs) documents pairs) pairs
-      (pairs_each IsDocumentReading (Contains documents) (λ a. All Right (beside_all (is_excused xs) documents pairs a))
-      (λ d x known r. all_flat Right (found_in_pair (is_excused xs) documents (d, x)) pairs
-      (pairs_each IsDocumentReading (Contains documents) (λ b. All Right (found_in_pair (is_excused xs) documents (d, x) b))
-      (λ e y at s. counted_right (is_beside documents d e) (stale_in_pair (d, x) (e, y) ++ found_beside (is_excused xs) (in_one_folder d e) e.kind x y)
+      (all_flat Right (beside_all (is_excused xs) pairs) pairs
+      (pairs_each IsDocumentReading (Contains documents) (λ a. All Right (beside_all (is_excused xs) pairs a))
+      (λ d x known r. all_flat Right (found_in_pair (is_excused xs) (d, x)) pairs
+      (pairs_each IsDocumentReading (Contains documents) (λ b. All Right (found_in_pair (is_excused xs) (d, x) b))
+      (λ e y at s. counted_right (is_beside d.file.name e.file.name y) (stale_in_pair (d, x) (e, y) ++ found_beside (is_excused xs) (in_one_folder d e) e.kind x y)
       (All-append Right (stale_in_pair (d, x) (e, y)) (found_beside (is_excused xs) (in_one_folder d e) e.kind x y) (near_right d e x y known at r s (in_one_folder d e) refl) (beside_right (is_excused xs) (in_one_folder d e) d.kind d.file e x y known at r s)))
       documents xs (All-contains_itself documents) h)) documents xs
       (All-contains_itself documents) h))

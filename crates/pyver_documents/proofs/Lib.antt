@@ -3,4 +3,3 @@ pub mod LockedPackages
 pub mod Holding
 pub mod Agreeing
 pub mod Once
-pub mod ExportsFound

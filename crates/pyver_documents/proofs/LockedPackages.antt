@@ -1,6 +1,5 @@
 -- Packages that a lock leaves out in known environments, and requirements beside the packages of a lock, which exclude them, or which none of them meets.
 use Rattle.std.proofs.Common.{◌≡◌, ◌&&◌, Bool, true, false, refl, Option, Some, None, sym, ◌∙◌, ℕ, List, Result, Ok, Err, ap, cond, [], ◌∷◌, arith, suc, zero, is_none, ◌||◌, Bor, map, option_map, if◌then◌else◌, ◌==◌, length, subst, get_or, inl, inr, ◌<◌}
-use Rattle.std.specs.Prelude.{◌⊎◌}
 use Rattle.std.proofs.lemmas.Bool.{true≢false}
 use Rattle.std.proofs.lemmas.List.Elements.{All-cons, All-contains_itself, All-nil}
 use Rattle.std.proofs.lemmas.List.Folds.{list_any_at}
@@ -15,24 +14,23 @@ use Rattle.pep440_version.proofs.Reading.Agreement.{one_record}
 use Rattle.pep440_version.proofs.Rejections.ExactlyOne.{not_both}
 use Rattle.pep440_version.specs.Grammar.{Derives}
 use Rattle.pep440_version.specs.Record.{Record}
-use Rattle.pyver_documents.proofs.Walks.{all_flat, any-both, beside_it, beside_some, filter-both, filter_some, left_false, left_nil, nil_at, right_false, right_nil, zip_each}
-use Rattle.pyver_documents.specs.Comparing.{leaves_out_all, lack_finding, partly_locked, is_for_demand, taken_packages, lacks_taken, is_for_extras, lack_without_marker, without_extras, absent, accepts_version, excluded, has_name, is_allowed, lack_in, may_take, named_line, outside, unlocked}
+use Rattle.pyver_documents.proofs.Walks.{all_flat, any-both, beside_it, beside_some, filter_some, left_false, left_nil, nil_at, right_false, right_nil, zip_each}
+use Rattle.pyver_documents.specs.Comparing.{leaves_out_all, lack_finding, partly_locked, taken_packages, lack_without_marker, absent, accepts_version, excluded, has_name, is_allowed, lack_in, may_take, named_line, outside, unlocked}
 use Rattle.pyver_documents.specs.DocumentKinds.{locked}
-use Rattle.pyver_documents.specs.DocumentLaws.{FailsIn, CannotBe, CannotMeet, IsLack, IsLeftOut, IsLineOfName, IsOutside, IsOutsideList, MeetsIn, LocksVersion, SomeContained}
+use Rattle.pyver_documents.specs.DocumentLaws.{FailsIn, CannotMeet, IsLack, IsLeftOut, IsLineOfName, IsOutside, IsOutsideList, MeetsIn, LocksVersion, SomeContained}
 use Rattle.pyver_documents.specs.DocumentViews.{locked_reading_of}
 use Rattle.pyver_documents.specs.Meanings.{LockedReading, IsConditionReading, IsLockedReading, IsVersionReading, package_line}
 use Rattle.pyver_documents.specs.declared.locked_reading.LockedReading.{LockedReading as LockedReadingValue}
 use Rattle.pyver_findings.specs.Demands.{Demand, line_demand}
 use Rattle.pyver_findings.specs.FileLines.{FileLine, Finding, Conflicting}
 use Rattle.pyver_findings.specs.declared.finding.Conflict.TheVariants.{PinOutside}
-use Rattle.pyver_locks.specs.KnownEnvironments.{read_value, ReadCondition, is_left_out_in, known_environments, is_for, known_environment, python_record, marker_value, read_condition_of}
+use Rattle.pyver_locks.specs.KnownEnvironments.{is_false, read_value, ReadCondition, is_left_out_in, known_environments, is_for, known_environment, python_record, marker_value, read_condition_of}
 use Rattle.pyver_locks.specs.LockContents.{LockParts, LockedPackage, PackageCondition}
 use Rattle.pyver_locks.specs.declared.known_environment.KnownEnvironment.{KnownEnvironment}
 use Rattle.pyver_locks.specs.declared.known_environment.ReadCondition.{ReadCondition as ReadConditionValue}
 use Rattle.pyver_markers.proofs.Readings.{last_is_value}
 use Rattle.pyver_markers.specs.Environments.{Environment}
 use Rattle.pyver_markers.specs.MarkerValues.{value}
-use Rattle.pyver_projects.specs.ProjectTables.{is_false}
 use Rattle.pyver_requirements.proofs.MarkerReadings.{read_steps_are_derived}
 use Rattle.pyver_requirements.proofs.MarkerStepReadings.{steps_are_read}
 use Rattle.pyver_requirements.specs.MarkerSteps.{Misfit, Step, marker_steps, steps}
@@ -109,16 +107,12 @@ nowhere_lacking parts line (y ∷ values) b is some =
     let taken = map (λ (z : Bor LockedReadingValue). locked_reading_of z.now) (y ∷ values) in
     ap (lack_finding line) (nothing_found (leaves_out_all parts taken) known_environments (λ k. not_all parts k taken (sym (same_conditions b (y ∷ values) is) ∙ some)))
 
--- the packages that the requirement may take and that are for its extras
-abbrev pub needed_packages : LockParts → List LockedReading → Demand → List LockedReading
-needed_packages parts ys a = filter (is_for_demand parts a) (taken_packages ys a)
-
 either_nil : (b : Bool) (fs : List Finding) → fs ≡ [] → (if b then fs else []) ≡ []
 either_nil true fs none = none
 either_nil false fs none = refl
 
 -- nothing is lacking of no packages
-pub none_taken : (parts : LockParts) (a : Demand) → lacks_taken parts a [] ≡ []
+pub none_taken : (parts : LockParts) (a : Demand) → lack_without_marker parts a [] ≡ []
 none_taken parts a = either_nil (is_none a.marker) (partly_locked parts a.line []) refl
 
 no_zero : (n : ℕ) → (suc n == 0) ≡ false
@@ -158,14 +152,14 @@ module _ (lock : List ℕ) (ps : List LockedPackage) (line : FileLine) (n : Need
   hidden true = All-nil IsHere
   hidden false = All-nil IsHere
 
-  line_right : (p : LockedPackage) (w : Option (List ℕ)) (y : LockedReading) → Contains ps p → p.version ≡ w → IsVersionReading (package_line lock p) p.name p.extras y.condition w y → All IsHere (named_line always y)
+  line_right : (p : LockedPackage) (w : Option (List ℕ)) (y : LockedReading) → Contains ps p → p.version ≡ w → IsVersionReading (package_line lock p) p.name y.condition w y → All IsHere (named_line always y)
   line_right p None y here written is = subst (λ (z : LockedReading). All IsHere (named_line always z)) (sym is) (hidden (same_name n.name p.name))
   line_right p (Some text) y here written (inl (r, d, is)) = subst (λ (z : LockedReading). All IsHere (named_line always z)) (sym is) (shown (same_name n.name p.name) p text r here written d refl)
   line_right p (Some text) y here written (inr (f, r, is)) = subst (λ (z : LockedReading). All IsHere (named_line always z)) (sym is) (hidden (same_name n.name p.name))
 
   module _ (p : LockedPackage) (y : LockedReading) (text : List ℕ) (v : Record) (d : Derives text v) (same : same_name n.name p.name ≡ true) where
     -- a package with this version is read so
-    version_read : (w : Option (List ℕ)) → w ≡ Some text → IsVersionReading (package_line lock p) p.name p.extras y.condition w y → y ≡ record { line = package_line lock p; name = normal p.name; extras = p.extras; condition = y.condition; version = Some v; invalid = None }
+    version_read : (w : Option (List ℕ)) → w ≡ Some text → IsVersionReading (package_line lock p) p.name y.condition w y → y ≡ record { line = package_line lock p; name = normal p.name; condition = y.condition; version = Some v; invalid = None }
     version_read None written is = cc written
     version_read (Some t) written (inr (f, r, is)) =
         let equal : t ≡ text = cc written in
@@ -173,7 +167,7 @@ module _ (lock : List ℕ) (ps : List LockedPackage) (line : FileLine) (n : Need
     version_read (Some t) written (inl (r, c, is)) =
         let equal : t ≡ text = cc written in
         let one : r ≡ v = one_record t r v c (subst (λ (q : List ℕ). Derives q v) (sym equal) d) in
-        is ∙ ap (λ (q : Record). record { line = package_line lock p; name = normal p.name; extras = p.extras; condition = y.condition; version = Some q; invalid = None }) one
+        is ∙ ap (λ (q : Record). record { line = package_line lock p; name = normal p.name; condition = y.condition; version = Some q; invalid = None }) one
 
     module _ (written : p.version ≡ Some text) (is : IsLockedReading lock p y) where
       allowed_is : is_allowed always y ≡ list_matches_literally n.specifiers v
@@ -186,7 +180,7 @@ module _ (lock : List ℕ) (ps : List LockedPackage) (line : FileLine) (n : Need
   abbrev pub HasOtherName : LockedPackage → Type 0
   HasOtherName p = same_name n.name p.name ≡ false
 
-  name_is : (p : LockedPackage) (w : Option (List ℕ)) (y : LockedReading) → IsVersionReading (package_line lock p) p.name p.extras y.condition w y → has_name always y ≡ same_name n.name p.name
+  name_is : (p : LockedPackage) (w : Option (List ℕ)) (y : LockedReading) → IsVersionReading (package_line lock p) p.name y.condition w y → has_name always y ≡ same_name n.name p.name
   name_is p None y is = ap (λ (z : LockedReading). has_name always z) is
   name_is p (Some text) y (inl (r, d, is)) = ap (λ (z : LockedReading). has_name always z) is
   name_is p (Some text) y (inr (f, r, is)) = ap (λ (z : LockedReading). has_name always z) is
@@ -208,56 +202,10 @@ module _ (lock : List ℕ) (ps : List LockedPackage) (line : FileLine) (n : Need
   IsLackHere parts = IsLack parts ps n line
 
   -- a package whose version the list does not contain
-  other_version : (p : LockedPackage) (w : Option (List ℕ)) (y : LockedReading) → p.version ≡ w → IsVersionReading (package_line lock p) p.name p.extras y.condition w y → may_take n.specifiers y ≡ false → IsOutsideList n.specifiers p
+  other_version : (p : LockedPackage) (w : Option (List ℕ)) (y : LockedReading) → p.version ≡ w → IsVersionReading (package_line lock p) p.name y.condition w y → may_take n.specifiers y ≡ false → IsOutsideList n.specifiers p
   other_version p None y written is not_taken = absurd (true≢false (ap (λ (z : LockedReading). may_take n.specifiers z) (sym is) ∙ not_taken))
   other_version p (Some text) y written (inl (r, d, is)) not_taken = (text, r, written, d, ap (λ (z : LockedReading). may_take n.specifiers z) (sym is) ∙ not_taken)
   other_version p (Some text) y written (inr (f, r, is)) not_taken = absurd (true≢false (ap (λ (z : LockedReading). may_take n.specifiers z) (sym is) ∙ not_taken))
-
-  -- ---- packages for other extras
-
-  for_is : (parts : LockParts) (p : LockedPackage) (w : Option (List ℕ)) (y : LockedReading) → IsVersionReading (package_line lock p) p.name p.extras y.condition w y → is_for_demand parts always y ≡ is_for_extras parts (map normal n.extras) p.extras
-  for_is parts p None y is = ap (λ (z : LockedReading). is_for_demand parts always z) is
-  for_is parts p (Some text) y (inl (r, d, is)) = ap (λ (z : LockedReading). is_for_demand parts always z) is
-  for_is parts p (Some text) y (inr (f, r, is)) = ap (λ (z : LockedReading). is_for_demand parts always z) is
-
-  -- the requirement may take the package, which is for its extras
-  abbrev pub takes : LockParts → LockedReading → Bool
-  takes parts y = may_take n.specifiers y && is_for_demand parts always y
-
-  -- those of its name that it takes
-  abbrev pub needed_of : LockParts → List LockedReading → List LockedReading
-  needed_of parts zs = filter (takes parts) (filter (has_name always) zs)
-
-  needed_are : (parts : LockParts) (zs : List LockedReading) → filter (is_for_demand parts always) (taken_packages zs always) ≡ needed_of parts zs
-  needed_are parts zs = filter-both (may_take n.specifiers) (is_for_demand parts always) (filter (has_name always) zs)
-
-  cannot_take : (parts : LockParts) (p : LockedPackage) (y : LockedReading) → IsLockedReading lock p y → (c d : Bool) → may_take n.specifiers y ≡ c → is_for_demand parts always y ≡ d → (c && d) ≡ false
-      → IsOutsideList n.specifiers p ⊎ (is_for_extras parts (map normal n.extras) p.extras ≡ false)
-  cannot_take parts p y r false d may its e = inl (other_version p p.version y refl r.1 may)
-  cannot_take parts p y r true false may its e = inr (sym (for_is parts p p.version y r.1) ∙ its)
-  cannot_take parts p y r true true may its e = absurd (true≢false e)
-
-  other_one : (parts : LockParts) (p : LockedPackage) (y : LockedReading) → IsLockedReading lock p y → takes parts y ≡ false → CannotBe parts n p
-  other_one parts p y r taken = inr (cannot_take parts p y r (may_take n.specifiers y) (is_for_demand parts always y) refl refl taken)
-
-  one_cannot : (parts : LockParts) (b c : Bool) (p : LockedPackage) (y : LockedReading) (rest : List LockedReading) → IsLockedReading lock p y → has_name always y ≡ b → takes parts y ≡ c → filter (takes parts) (cond b (y ∷ rest) rest) ≡ []
-      → CannotBe parts n p × (filter (takes parts) rest ≡ [])
-  one_cannot parts false c p y rest r named taken none = (inl (sym (name_is p p.version y r.1) ∙ named), none)
-  one_cannot parts true false p y rest r named taken none = (other_one parts p y r taken, ap (λ f. cond f (y ∷ filter (takes parts) rest) (filter (takes parts) rest)) (sym taken) ∙ none)
-  one_cannot parts true true p y rest r named taken none =
-      let some : y ∷ filter (takes parts) rest ≡ [] = ap (λ f. cond f (y ∷ filter (takes parts) rest) (filter (takes parts) rest)) (sym taken) ∙ none in
-      cc some
-
-  none_be : (parts : LockParts) (qs : List LockedPackage) (zs : List LockedReading) → AllZip (IsLockedReading lock) qs zs → needed_of parts zs ≡ [] → All (CannotBe parts n) qs
-  none_be parts [] zs h none = All-nil (CannotBe parts n)
-  none_be parts (p ∷ qs) [] h none = absurd h
-  none_be parts (p ∷ qs) (z ∷ zs) h none =
-      let (here, later) = one_cannot parts (has_name always z) (takes parts z) p z (filter (has_name always) zs) h.0 refl refl none in
-      All-cons (CannotBe parts n) p qs here (none_be parts qs zs h.1 later)
-
-  -- none is what the requirement takes for its extras
-  pub none_for : (parts : LockParts) (ys : List LockedReading) → AllZip (IsLockedReading lock) ps ys → filter (is_for_demand parts always) (taken_packages ys always) ≡ [] → All (CannotBe parts n) ps
-  none_for parts ys h none = none_be parts ps ys h (sym (needed_are parts ys) ∙ none)
 
   module _ (parts : LockParts) (k : KnownEnvironment) where
     left_out : (p : LockedPackage) (w : Option PackageCondition) (c : Option ReadCondition) → p.condition ≡ w → IsConditionReading w c → is_left_out_in parts k c ≡ true → IsLeftOut parts k p
@@ -276,30 +224,30 @@ module _ (lock : List ℕ) (ps : List LockedPackage) (line : FileLine) (n : Need
         )
 
     -- a package that cannot be taken there
-    one_lacks : (b c d : Bool) (p : LockedPackage) (y : LockedReading) (rest : List LockedReading) → IsLockedReading lock p y → has_name always y ≡ b → takes parts y ≡ c → is_left_out_in parts k y.condition ≡ d
-        → leaves_out_all parts (filter (takes parts) (cond b (y ∷ rest) rest)) k ≡ true → CannotMeet parts n k p × (leaves_out_all parts (filter (takes parts) rest) k ≡ true)
+    one_lacks : (b c d : Bool) (p : LockedPackage) (y : LockedReading) (rest : List LockedReading) → IsLockedReading lock p y → has_name always y ≡ b → may_take n.specifiers y ≡ c → is_left_out_in parts k y.condition ≡ d
+        → leaves_out_all parts (filter (may_take n.specifiers) (cond b (y ∷ rest) rest)) k ≡ true → CannotMeet parts n k p × (leaves_out_all parts (filter (may_take n.specifiers) rest) k ≡ true)
     one_lacks false c d p y rest r named taken out all = (inl (inl (sym (name_is p p.version y r.1) ∙ named)), all)
     one_lacks true false d p y rest r named taken out all =
-        (inl (other_one parts p y r taken), ap (λ f. leaves_out_all parts (cond f (y ∷ filter (takes parts) rest) (filter (takes parts) rest)) k) (sym taken) ∙ all)
+        (inl (inr (other_version p p.version y refl r.1 taken)), ap (λ f. leaves_out_all parts (cond f (y ∷ filter (may_take n.specifiers) rest) (filter (may_take n.specifiers) rest)) k) (sym taken) ∙ all)
     one_lacks true true d p y rest r named taken out all =
-        let both : (is_left_out_in parts k y.condition && leaves_out_all parts (filter (takes parts) rest) k) ≡ true =
-        ap (λ f. leaves_out_all parts (cond f (y ∷ filter (takes parts) rest) (filter (takes parts) rest)) k) (sym taken) ∙ all in (
-          inr (left_out p p.condition y.condition refl r.0 (and_left (is_left_out_in parts k y.condition) (leaves_out_all parts (filter (takes parts) rest) k) both)),
-          and_right (is_left_out_in parts k y.condition) (leaves_out_all parts (filter (takes parts) rest) k) both,
+        let both : (is_left_out_in parts k y.condition && leaves_out_all parts (filter (may_take n.specifiers) rest) k) ≡ true =
+        ap (λ f. leaves_out_all parts (cond f (y ∷ filter (may_take n.specifiers) rest) (filter (may_take n.specifiers) rest)) k) (sym taken) ∙ all in (
+          inr (left_out p p.condition y.condition refl r.0 (and_left (is_left_out_in parts k y.condition) (leaves_out_all parts (filter (may_take n.specifiers) rest) k) both)),
+          and_right (is_left_out_in parts k y.condition) (leaves_out_all parts (filter (may_take n.specifiers) rest) k) both,
         )
 
-    all_lack : (qs : List LockedPackage) (ys : List LockedReading) → AllZip (IsLockedReading lock) qs ys → leaves_out_all parts (needed_of parts ys) k ≡ true → All (CannotMeet parts n k) qs
+    all_lack : (qs : List LockedPackage) (ys : List LockedReading) → AllZip (IsLockedReading lock) qs ys → leaves_out_all parts (taken_packages ys always) k ≡ true → All (CannotMeet parts n k) qs
     all_lack [] ys h all = All-nil (CannotMeet parts n k)
     all_lack (p ∷ qs) [] h all = absurd h
     all_lack (p ∷ qs) (y ∷ ys) h all =
-        let (here, later) = one_lacks (has_name always y) (takes parts y) (is_left_out_in parts k y.condition) p y (filter (has_name always) ys) h.0 refl refl refl all in
+        let (here, later) = one_lacks (has_name always y) (may_take n.specifiers y) (is_left_out_in parts k y.condition) p y (filter (has_name always) ys) h.0 refl refl refl all in
         All-cons (CannotMeet parts n k) p qs here (all_lack qs ys h.1 later)
 
   -- the list contains the version of a package that it may take
   inside_list : (p : LockedPackage) (y : LockedReading) → IsOutsideList n.specifiers p → IsLockedReading lock p y → may_take n.specifiers y ≡ true → ⊥
   inside_list p y (text, v, written, d, differs) r taken = inside_by p.version written r.1
     where
-      inside_by : (w : Option (List ℕ)) → w ≡ Some text → IsVersionReading (package_line lock p) p.name p.extras y.condition w y → ⊥
+      inside_by : (w : Option (List ℕ)) → w ≡ Some text → IsVersionReading (package_line lock p) p.name y.condition w y → ⊥
       inside_by None is read = cc is
       inside_by (Some t) is (inr (f, rejected, read)) =
           let equal : t ≡ text = cc is in
@@ -329,19 +277,19 @@ module _ (lock : List ℕ) (ps : List LockedPackage) (line : FileLine) (n : Need
           ∙ same_list s (one_list c.python s list (subst (λ (z : PackageCondition). DerivesList z.python s) equal derived) d)
 
   module _ (ys : List LockedReading) (h : AllZip (IsLockedReading lock) ps ys) where
-    lack_right : (parts : LockParts) (found : Option KnownEnvironment) → find (leaves_out_all parts (needed_of parts ys)) known_environments ≡ found → All (IsLackHere parts) (lack_finding line found)
+    lack_right : (parts : LockParts) (found : Option KnownEnvironment) → find (leaves_out_all parts (taken_packages ys always)) known_environments ≡ found → All (IsLackHere parts) (lack_finding line found)
     lack_right parts None is = All-nil (IsLackHere parts)
     lack_right parts (Some k) is =
-        let all = found_so (leaves_out_all parts (needed_of parts ys)) known_environments k is in
+        let all = found_so (leaves_out_all parts (taken_packages ys always)) known_environments k is in
         All-cons (IsLackHere parts) (lack_in line k) [] (record { environment = k; none = all_lack parts k ps ys h all; is = refl }) (All-nil (IsLackHere parts))
 
-    partly_by : (parts : LockParts) (needed : List LockedReading) → needed_of parts ys ≡ needed → All (IsLackHere parts) (partly_locked parts line needed)
+    partly_by : (parts : LockParts) (needed : List LockedReading) → taken_packages ys always ≡ needed → All (IsLackHere parts) (partly_locked parts line needed)
     partly_by parts [] is = All-nil (IsLackHere parts)
-    partly_by parts (y ∷ needed) is = subst (λ (all : List LockedReading). All (IsLackHere parts) (lack_finding line (find (leaves_out_all parts all) known_environments))) is (lack_right parts (find (leaves_out_all parts (needed_of parts ys)) known_environments) refl)
+    partly_by parts (y ∷ needed) is = subst (λ (all : List LockedReading). All (IsLackHere parts) (lack_finding line (find (leaves_out_all parts all) known_environments))) is (lack_right parts (find (leaves_out_all parts (taken_packages ys always)) known_environments) refl)
 
     -- what is said of an environment is right
-    pub partly_right : (parts : LockParts) → All (IsLackHere parts) (partly_locked parts line (filter (is_for_demand parts always) (taken_packages ys always)))
-    partly_right parts = partly_by parts (filter (is_for_demand parts always) (taken_packages ys always)) (sym (needed_are parts ys))
+    pub partly_right : (parts : LockParts) → All (IsLackHere parts) (partly_locked parts line (taken_packages ys always))
+    partly_right parts = partly_by parts (taken_packages ys always) refl
 
     none_contained : list_any (is_allowed always) ys ≡ false → SomeContained ps n.name n.specifiers → ⊥
     none_contained none (p, v, (k, inside, at), (same, text, written, d), contained) =
@@ -366,7 +314,7 @@ module _ (lock : List ℕ) (ps : List LockedPackage) (line : FileLine) (n : Need
     excluded_right = excluded_by (list_any (is_allowed always) ys) refl
 
     module _ (p : LockedPackage) (k : ℕ) (inside : k < length ps) (at : get_or ps k p ≡ p) (v : Record) (locks : LocksVersion n.name p v) where
-      known : (q : LockedPackage) (w : Option (List ℕ)) (z : LockedReading) → Contains ps q → q.version ≡ w → IsVersionReading (package_line lock q) q.name q.extras z.condition w z → is_allowed always z ≡ true → SomeContained ps n.name n.specifiers
+      known : (q : LockedPackage) (w : Option (List ℕ)) (z : LockedReading) → Contains ps q → q.version ≡ w → IsVersionReading (package_line lock q) q.name z.condition w z → is_allowed always z ≡ true → SomeContained ps n.name n.specifiers
       known q None z here written is e =
           let no : false ≡ true = and_right (same_name n.name q.name) false (ap (λ (x : LockedReading). is_allowed always x) (sym is) ∙ e) in
           absurd (true≢false (sym no))
@@ -433,35 +381,27 @@ module _ (lock : List ℕ) (ps : List LockedPackage) (line : FileLine) (n : Need
         taken_by (may_take n.specifiers z) p z (k, inside, at) there s (name_is p p.version z s.1 ∙ sym (name_is p p.version y r.1) ∙ named) refl none
 
     -- the first of them, or one of the others
-    one_of : (parts : LockParts) (k : KnownEnvironment) (b c d : Bool) (p : LockedPackage) (z : LockedReading) (qs : List LockedPackage) (zs : List LockedReading) → IsLockedReading lock p z → has_name always z ≡ b → takes parts z ≡ c
-        → is_left_out_in parts k z.condition ≡ d → (leaves_out_all parts (needed_of parts zs) k ≡ false → (q : LockedPackage) × Contains (p ∷ qs) q × MeetsIn parts n k q)
-        → leaves_out_all parts (filter (takes parts) (cond b (z ∷ filter (has_name always) zs) (filter (has_name always) zs))) k ≡ false
+    one_of : (parts : LockParts) (k : KnownEnvironment) (b c d : Bool) (p : LockedPackage) (z : LockedReading) (qs : List LockedPackage) (zs : List LockedReading) → IsLockedReading lock p z → has_name always z ≡ b → may_take n.specifiers z ≡ c
+        → is_left_out_in parts k z.condition ≡ d → (leaves_out_all parts (taken_packages zs always) k ≡ false → (q : LockedPackage) × Contains (p ∷ qs) q × MeetsIn parts n k q)
+        → leaves_out_all parts (filter (may_take n.specifiers) (cond b (z ∷ filter (has_name always) zs) (filter (has_name always) zs))) k ≡ false
         → (q : LockedPackage) × Contains (p ∷ qs) q × MeetsIn parts n k q
     one_of parts k false c d p z qs zs r named taken out later rest = later rest
-    one_of parts k true false d p z qs zs r named taken out later rest = later (ap (λ f. leaves_out_all parts (cond f (z ∷ needed_of parts zs) (needed_of parts zs)) k) (sym taken) ∙ rest)
+    one_of parts k true false d p z qs zs r named taken out later rest = later (ap (λ f. leaves_out_all parts (cond f (z ∷ taken_packages zs always) (taken_packages zs always)) k) (sym taken) ∙ rest)
     one_of parts k true true true p z qs zs r named taken out later rest =
-        later (ap (λ f. f && leaves_out_all parts (needed_of parts zs) k) (sym out) ∙ ap (λ f. leaves_out_all parts (cond f (z ∷ needed_of parts zs) (needed_of parts zs)) k) (sym taken) ∙ rest)
+        later (ap (λ f. f && leaves_out_all parts (taken_packages zs always) k) (sym out) ∙ ap (λ f. leaves_out_all parts (cond f (z ∷ taken_packages zs always) (taken_packages zs always)) k) (sym taken) ∙ rest)
     one_of parts k true true false p z qs zs r named taken out later rest =
-        let may : may_take n.specifiers z ≡ true = and_left (may_take n.specifiers z) (is_for_demand parts always z) taken in
-        let its : is_for_demand parts always z ≡ true = and_right (may_take n.specifiers z) (is_for_demand parts always z) taken in
-        (p, (zero, omega arith, refl), (sym (name_is p p.version z r.1) ∙ named, (λ outside. inside_list p z outside r may), sym (for_is parts p p.version z r.1) ∙ its, (λ leaves. true≢false (sym (is_out parts k p z leaves r) ∙ out))))
+        (p, (zero, omega arith, refl), (sym (name_is p p.version z r.1) ∙ named, (λ outside. inside_list p z outside r taken), (λ leaves. true≢false (sym (is_out parts k p z leaves r) ∙ out))))
 
     further : (parts : LockParts) (k : KnownEnvironment) (p : LockedPackage) (qs : List LockedPackage) → ((q : LockedPackage) × Contains qs q × MeetsIn parts n k q) → (q : LockedPackage) × Contains (p ∷ qs) q × MeetsIn parts n k q
     further parts k p qs (q, (i, inside, at), meets) = (q, (suc i, omega (arith, inside), at), meets)
 
     -- one of those that are taken is there, where not all are left out
-    not_all_out : (parts : LockParts) (k : KnownEnvironment) (qs : List LockedPackage) (zs : List LockedReading) → AllZip (IsLockedReading lock) qs zs → leaves_out_all parts (needed_of parts zs) k ≡ false → (p : LockedPackage) × Contains qs p × MeetsIn parts n k p
+    not_all_out : (parts : LockParts) (k : KnownEnvironment) (qs : List LockedPackage) (zs : List LockedReading) → AllZip (IsLockedReading lock) qs zs → leaves_out_all parts (taken_packages zs always) k ≡ false → (p : LockedPackage) × Contains qs p × MeetsIn parts n k p
     not_all_out parts k [] [] r none = absurd (true≢false none)
     not_all_out parts k [] (z ∷ zs) r none = absurd r
     not_all_out parts k (p ∷ qs) [] r none = absurd r
     not_all_out parts k (p ∷ qs) (z ∷ zs) (r, others) none =
-        one_of parts k (has_name always z) (takes parts z) (is_left_out_in parts k z.condition) p z qs zs r refl refl refl (λ rest. further parts k p qs (not_all_out parts k qs zs others rest)) none
-
-    -- where no extras are missing, what may be taken is also taken
-    some_needed : (taken needed : List LockedReading) → (taken ≡ [] → ⊥) → without_extras always taken needed ≡ [] → needed ≡ [] → ⊥
-    some_needed [] needed some none nil = some refl
-    some_needed (y ∷ taken) [] some none nil = cc none
-    some_needed (y ∷ taken) (z ∷ needed) some none nil = cc nil
+        one_of parts k (has_name always z) (may_take n.specifiers z) (is_left_out_in parts k z.condition) p z qs zs r refl refl refl (λ rest. further parts k p qs (not_all_out parts k qs zs others rest)) none
 
     found_none : (parts : LockParts) (taken : List LockedReading) (k : KnownEnvironment) (found : Option KnownEnvironment) → find (leaves_out_all parts taken) known_environments ≡ found → lack_finding line found ≡ [] → Contains known_environments k → leaves_out_all parts taken k ≡ false
     found_none parts taken k (Some e) so nil inside = cc nil
@@ -475,10 +415,8 @@ module _ (lock : List ℕ) (ps : List LockedPackage) (line : FileLine) (n : Need
     pub met_everywhere : (parts : LockParts) → unlocked parts ys always ≡ [] → excluded always ys ≡ [] → (k : KnownEnvironment) → Contains known_environments k → (p : LockedPackage) × Contains ps p × MeetsIn parts n k p
     met_everywhere parts locked none k inside =
         let taken = taken_packages ys always in
-        let needed = filter (is_for_demand parts always) taken in
-        let present = left_nil (absent ys always) (lacks_taken parts always taken) locked in
-        let complete = right_nil (absent ys always) (lacks_taken parts always taken) locked in
+        let present = left_nil (absent ys always) (lack_without_marker parts always taken) locked in
+        let complete = right_nil (absent ys always) (lack_without_marker parts always taken) locked in
         let some : list_any (may_take n.specifiers) (filter (has_name always) ys) ≡ true = any-both (has_name always) (may_take n.specifiers) ys ∙ some_taken present none in
-        let there = some_needed taken needed (λ nil. filter_some (may_take n.specifiers) (filter (has_name always) ys) some nil) (left_nil (without_extras always taken needed) (lack_without_marker parts always needed) complete) in
-        let met = met_in parts needed k there (right_nil (without_extras always taken needed) (lack_without_marker parts always needed) complete) inside in
-        not_all_out parts k ps ys h (ap (λ all. leaves_out_all parts all k) (sym (needed_are parts ys)) ∙ met)
+        let met = met_in parts taken k (λ nil. filter_some (may_take n.specifiers) (filter (has_name always) ys) some nil) complete inside in
+        not_all_out parts k ps ys h met

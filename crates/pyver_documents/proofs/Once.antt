@@ -21,7 +21,7 @@ use Rattle.toml.specs.Data.{Members}
 use Rattle.pyver_documents.proofs.Walks.{zip_once, left_false, right_false, all_flat, zip_each, beside_it, beside_some, left_nil, nil_at, right_nil}
 use Rattle.pyver_documents.specs.Comparing.{FindsOfReading, with_found, documents_report, is_declared, same_extras, is_in_lock, is_same_requirement, same_list, is_in_project, differing, unentered, unentered_in, unentered_reason, unmatched, unrequired, unrequired_in, unrequired_reason}
 use Rattle.pyver_documents.specs.DocumentLaws.{IsReadableAs, DocumentReportsOnce, IsReadable, IsDeclared, IsEntryFor, IsOtherString, Requires}
-use Rattle.pyver_documents.specs.Meanings.{IsFilledMeaning, Groups, has_each_extra, if_it_has, left_out_if_none, IsSectionMeaning, AreVersions, list_versions, AreLockedPythons, ArePythons, IsStringReading, StringReading, string_line, IsVersionReading, LockedReading, IsConditionReading, IsLockedReading, package_line, groups, DocumentReading, IsProject, IsProjectReading, IsRequirementReading, reference_marker, requirement_line, ExtraReading, IsExtraReading, IsFileReading, file_meaning, is_of_version, IsLock, IsLockReading, fault_meaning, IsDocumentReading, extra_inclusions, inclusions, IsBroken, no_group, has_own_extras}
+use Rattle.pyver_documents.specs.Meanings.{Groups, has_each_extra, if_it_has, left_out_if_none, IsSectionMeaning, AreVersions, list_versions, AreLockedPythons, ArePythons, IsStringReading, StringReading, string_line, IsVersionReading, LockedReading, IsConditionReading, IsLockedReading, package_line, groups, DocumentReading, IsProject, IsProjectReading, IsRequirementReading, reference_marker, requirement_line, ExtraReading, IsExtraReading, IsFileReading, file_meaning, is_of_version, IsLock, IsLockReading, fault_meaning, IsDocumentReading, extra_inclusions, inclusions, IsBroken, no_group, has_own_extras}
 use Rattle.pyver_documents.specs.Together.{FindsOfPart, part_demands, project_domain, sections, parts, same_finding, with_new}
 use Rattle.pyver_documents.specs.declared.document_kind.DocumentKind.{DocumentKind}
 use Rattle.pyver_documents.specs.declared.document_kind.DocumentKind.TheVariants.{Lock, Project}
@@ -35,20 +35,13 @@ use Rattle.pyver_findings.specs.MarkedConflicts.{FindsOfEach}
 use Rattle.pyver_findings.specs.Reports.{Report, demands_in}
 use Rattle.pyver_locks.specs.KnownEnvironments.{ReadCondition}
 use Rattle.pyver_locks.specs.LockContents.{PackageCondition, LockedPackage, LockedRequirement, LockedExtra, LockedFile, LockContents}
-use Rattle.pyver_projects.specs.ProjectStrings.{Build, Constraint, Dependencies, Entry, Environment, Extra, Group, Include, Invalid, OwnExtras, Section, Python, Unread, Version, ProjectString}
+use Rattle.pyver_projects.specs.ProjectStrings.{Build, Constraint, Dependencies, Entry, Extra, Group, Include, Invalid, OwnExtras, Section, Python, Unread, Version, ProjectString}
 use Rattle.pyver_projects.specs.ProjectTables.{has_group_tool, overridden_names, project_names, sources}
 use Rattle.pyver_requirements.specs.LineParts.{line_parts, LineParts}
 use Rattle.pyver_requirements.specs.MarkerReading.{marker as read_marker}
 use Rattle.pyver_requirements.specs.MarkerSteps.{Misfit}
 use Rattle.pyver_requirements.specs.declared.cause.Cause.{Cause}
-use Rattle.pyver_projects.specs.declared.project.EntryTool.TheVariants as of_entries
 use Rattle.pyver_requirements.specs.declared.cause.Cause.TheVariants as cause
-
-one_filled : (line : FileLine) (text : List ℕ) (x y : LineMeaning) → IsFilledMeaning line text x → IsFilledMeaning line text y → x ≡ y
-one_filled line text x y (inl (has, a)) (inl (also, b)) = a ∙ sym b
-one_filled line text x y (inl (has, a)) (inr (lacks, b)) = absurd (true≢false (sym has ∙ lacks))
-one_filled line text x y (inr (lacks, a)) (inl (has, b)) = absurd (true≢false (sym has ∙ lacks))
-one_filled line text x y (inr (lacks, a)) (inr (also, b)) = one_parts line (line_parts line.text) x y a b
 
 one_meaning : (all : Groups) (line : FileLine) (text : List ℕ) (section : Section) (x y : LineMeaning) → IsSectionMeaning all section line text x → IsSectionMeaning all section line text y → x ≡ y
 one_meaning all line text Dependencies x y a b = one_parts line (line_parts line.text) x y a b
@@ -56,12 +49,10 @@ one_meaning all line text (Extra name) x y a b = one_parts line (line_parts line
 one_meaning all line text (Group name) x y a b = one_parts line (line_parts line.text) x y a b
 one_meaning all line text (Include group included) x y a b = a ∙ sym b
 one_meaning all line text (Invalid table reason) x y a b = a ∙ sym b
-one_meaning all line text (Entry of_entries.Poetry table name) x y (m, a, v) (n, b, w) = v ∙ ap left_out_if_none (one_parts line (line_parts line.text) m n a b) ∙ sym w
-one_meaning all line text (Entry of_entries.Pipenv table name) x y a b = one_parts line (line_parts line.text) x y a b
+one_meaning all line text (Entry table name) x y (m, a, v) (n, b, w) = v ∙ ap left_out_if_none (one_parts line (line_parts line.text) m n a b) ∙ sym w
 one_meaning all line text (Unread c) x y a b = a ∙ sym b
 one_meaning all line text Constraint x y a b = one_parts line (line_parts line.text) x y a b
 one_meaning all line text (OwnExtras asker extras) x y (m, a, v) (n, b, w) = v ∙ ap (if_it_has (has_each_extra all.extras extras) line) (one_parts line (line_parts line.text) m n a b) ∙ sym w
-one_meaning all line text (Environment is_installed table) x y a b = one_filled line text x y a b
 one_meaning all line text Build x y a b = one_parts line (line_parts line.text) x y a b
 one_meaning all line text Python x y (inl (l, d, a)) (inl (m, e, b)) = a ∙ ap (list_meaning line) (one_list text l m d e) ∙ sym b
 one_meaning all line text Python x y (inl (l, d, a)) (inr (f, r, b)) = absurd (not_both_list text l f d r)
@@ -91,11 +82,10 @@ one_python (Extra name) text p q a b = a ∙ sym b
 one_python (Group name) text p q a b = a ∙ sym b
 one_python (Include group included) text p q a b = a ∙ sym b
 one_python (Invalid table reason) text p q a b = a ∙ sym b
-one_python (Entry tool table name) text p q a b = a ∙ sym b
+one_python (Entry table name) text p q a b = a ∙ sym b
 one_python (Unread c) text p q a b = a ∙ sym b
 one_python Constraint text p q a b = a ∙ sym b
 one_python (OwnExtras asker extras) text p q a b = a ∙ sym b
-one_python (Environment is_installed table) text p q a b = a ∙ sym b
 one_python Build text p q a b = a ∙ sym b
 
 pub one_string : (all : Groups) (file : File) (s : ProjectString) (x y : StringReading) → IsStringReading all file s x → IsStringReading all file s y → x ≡ y
@@ -105,13 +95,13 @@ one_string all file s x y (p, a, v) (q, b, w) =
     let python = one_python s.section s.text x.python y.python v w in
     λ j. record { section = section j; meaning = meaning j; python = python j }
 
-one_version : (line : FileLine) (name : List ℕ) (es : List (List ℕ)) (c : Option ReadCondition) (v : Option (List ℕ)) (x y : LockedReading) → IsVersionReading line name es c v x → IsVersionReading line name es c v y → x ≡ y
-one_version line name es c None x y a b = a ∙ sym b
-one_version line name es c (Some text) x y (inl (r, d, a)) (inl (q, e, b)) = a ∙ ap (λ (v : Record). record { line = line; name = normal name; extras = es; condition = c; version = Some v; invalid = None }) (one_record text r q d e) ∙ sym b
-one_version line name es c (Some text) x y (inl (r, d, a)) (inr (f, e, b)) = absurd (not_both text r f d e)
-one_version line name es c (Some text) x y (inr (f, e, a)) (inl (r, d, b)) = absurd (not_both text r f d e)
-one_version line name es c (Some text) x y (inr (f, r, a)) (inr (g, s, b)) =
-    a ∙ ap (λ (h : Rejection). record { line = line; name = normal name; extras = es; condition = c; version = None; invalid = Some (NoRequirement line (rejection_text h) (length name + 1)) }) (one_refusal text f g r s) ∙ sym b
+one_version : (line : FileLine) (name : List ℕ) (c : Option ReadCondition) (v : Option (List ℕ)) (x y : LockedReading) → IsVersionReading line name c v x → IsVersionReading line name c v y → x ≡ y
+one_version line name c None x y a b = a ∙ sym b
+one_version line name c (Some text) x y (inl (r, d, a)) (inl (q, e, b)) = a ∙ ap (λ (v : Record). record { line = line; name = normal name; condition = c; version = Some v; invalid = None }) (one_record text r q d e) ∙ sym b
+one_version line name c (Some text) x y (inl (r, d, a)) (inr (f, e, b)) = absurd (not_both text r f d e)
+one_version line name c (Some text) x y (inr (f, e, a)) (inl (r, d, b)) = absurd (not_both text r f d e)
+one_version line name c (Some text) x y (inr (f, r, a)) (inr (g, s, b)) =
+    a ∙ ap (λ (h : Rejection). record { line = line; name = normal name; condition = c; version = None; invalid = Some (NoRequirement line (rejection_text h) (length name + 1)) }) (one_refusal text f g r s) ∙ sym b
 
 one_condition : (p : Option PackageCondition) (c d : Option ReadCondition) → IsConditionReading p c → IsConditionReading p d → c ≡ d
 one_condition None c d a b = a ∙ sym b
@@ -123,7 +113,7 @@ one_condition (Some p) c d (inr (f, r, a)) (inr (g, s, b)) = a ∙ sym b
 one_package : (file : List ℕ) (p : LockedPackage) (x y : LockedReading) → IsLockedReading file p x → IsLockedReading file p y → x ≡ y
 one_package file p x y (a, b) (c, d) =
     let same : x.condition ≡ y.condition = one_condition p.condition x.condition y.condition a c in
-    one_version (package_line file p) p.name p.extras y.condition p.version x y (subst (λ z. IsVersionReading (package_line file p) p.name p.extras z p.version x) same b) d
+    one_version (package_line file p) p.name y.condition p.version x y (subst (λ z. IsVersionReading (package_line file p) p.name z p.version x) same b) d
 
 one_project : (file : File) (t : Members) (x y : DocumentReading) → IsProjectReading file t x → IsProjectReading file t y → x ≡ y
 one_project file t x y (xs, g, a) (ys, h, b) =
@@ -305,10 +295,6 @@ of_own line a true (LeftOut c) is e = cc e
 of_own line a false (LeftOut c) is e = cc e
 of_own line a has AsksNothing is e = cc e
 
-of_filled : (line : FileLine) (text : List ℕ) (a : Demand) → IsFilledMeaning line text (Asks a) → AsksFor line (line_parts line.text) a
-of_filled line text a (inl (has, is)) = cc is
-of_filled line text a (inr (lacks, is)) = of_parts line (line_parts line.text) a is
-
 -- what a string asks for
 pub of_section : (all : Groups) (line : FileLine) (text : List ℕ) (a : Demand) (section : Section) → IsSectionMeaning all section line text (Asks a) → AsksFor line (line_parts line.text) a
 of_section all line text a Python (inl (list, d, e)) = absurd (never_asks a _ _ e)
@@ -320,12 +306,10 @@ of_section all line text a (Extra name) is = of_parts line (line_parts line.text
 of_section all line text a (Group name) is = of_parts line (line_parts line.text) a is
 of_section all line text a (Include group included) is = absurd (no_include a line _ _ _ _ is)
 of_section all line text a (Invalid table reason) is = cc is
-of_section all line text a (Entry of_entries.Poetry table name) (m, is, e) = of_entry line a m is e
-of_section all line text a (Entry of_entries.Pipenv table name) is = of_parts line (line_parts line.text) a is
+of_section all line text a (Entry table name) (m, is, e) = of_entry line a m is e
 of_section all line text a (Unread c) is = cc is
 of_section all line text a Constraint is = of_parts line (line_parts line.text) a is
 of_section all line text a (OwnExtras asker extras) (m, is, e) = of_own line a (has_each_extra all.extras extras) m is e
-of_section all line text a (Environment is_installed table) is = of_filled line text a is
 of_section all line text a Build is = of_parts line (line_parts line.text) a is
 
 module _ (line : FileLine) (n : Needed) (plain : IsPlain (line_parts line.text).requirement) (d : DerivesRequirement (line_parts line.text).requirement n) (url : (line_parts line.text).url ≡ None) (m : Option (List ℕ)) where
@@ -356,10 +340,9 @@ module _ (line : FileLine) (n : Needed) (plain : IsPlain (line_parts line.text).
   asks all text (Group name) x has counts is = asks_by x has is
   asks all text (Include group included) x has counts is = cc counts
   asks all text (Invalid table reason) x has counts is = cc counts
-  asks all text (Entry tool table name) x has counts is = cc counts
+  asks all text (Entry table name) x has counts is = cc counts
   asks all text Constraint x has counts is = cc counts
   asks all text (OwnExtras asker extras) x has counts (k, is, e) = e ∙ ap (if_it_has (has_each_extra all.extras extras) line) (asks_by k has is) ∙ ap (λ b. if_it_has b line asked) counts
-  asks all text (Environment is_installed table) x has counts is = cc counts
   asks all text (Unread c) x has counts is = cc counts
   asks all text Build x has counts is = cc counts
   asks all text Python x has counts is = cc counts
@@ -384,9 +367,8 @@ declared_so all line text a (Group name) counts is = refl
 declared_so all line text a (OwnExtras asker extras) counts (m, parts, e) = own_so line a (has_each_extra all.extras extras) m e
 declared_so all line text a (Include group included) counts is = cc counts
 declared_so all line text a (Invalid table reason) counts is = cc counts
-declared_so all line text a (Entry tool table name) counts is = cc counts
+declared_so all line text a (Entry table name) counts is = cc counts
 declared_so all line text a Constraint counts is = cc counts
-declared_so all line text a (Environment is_installed table) counts is = cc counts
 declared_so all line text a (Unread c) counts is = cc counts
 declared_so all line text a Build counts is = cc counts
 declared_so all line text a Python counts is = cc counts

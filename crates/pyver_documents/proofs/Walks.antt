@@ -176,18 +176,18 @@ reason_by kind (Some f) is some lifted = (f, refl)
 pub list_reason : (kind : SpecifiersErrorKind) → lacks_list_memory kind ≡ false → IsListLifted kind → (f : PieceRejection) × (list_rejection_of kind ≡ Some f)
 list_reason kind some lifted = reason_by kind (list_rejection_of kind) refl some lifted
 
-condition_is : (line : FileLine) (name : List ℕ) (es : List (List ℕ)) (c : Option ReadCondition) (w : Option (List ℕ)) (y : LockedReading) → IsVersionReading line name es c w y → c ≡ y.condition
-condition_is line name es c None y is = ap (λ (z : LockedReading). z.condition) (sym is)
-condition_is line name es c (Some text) y (inl (r, d, is)) = ap (λ (z : LockedReading). z.condition) (sym is)
-condition_is line name es c (Some text) y (inr (f, r, is)) = ap (λ (z : LockedReading). z.condition) (sym is)
+condition_is : (line : FileLine) (name : List ℕ) (c : Option ReadCondition) (w : Option (List ℕ)) (y : LockedReading) → IsVersionReading line name c w y → c ≡ y.condition
+condition_is line name c None y is = ap (λ (z : LockedReading). z.condition) (sym is)
+condition_is line name c (Some text) y (inl (r, d, is)) = ap (λ (z : LockedReading). z.condition) (sym is)
+condition_is line name c (Some text) y (inr (f, r, is)) = ap (λ (z : LockedReading). z.condition) (sym is)
 
 -- a package under this condition
 pub locked_so : (file : List ℕ) (p : LockedPackage) (line : FileLine) (c : Option ReadCondition) (y : LockedReading) → line ≡ package_line file p → IsConditionReading p.condition c
-    → IsVersionReading line p.name p.extras c p.version y → IsLockedReading file p y
+    → IsVersionReading line p.name c p.version y → IsLockedReading file p y
 locked_so file p line c y at read version =
-    let so = condition_is line p.name p.extras c p.version y version in (
+    let so = condition_is line p.name c p.version y version in (
       subst (IsConditionReading p.condition) so read,
-      subst (λ d. IsVersionReading (package_line file p) p.name p.extras d p.version y) so (subst (λ l. IsVersionReading l p.name p.extras c p.version y) at version),
+      subst (λ d. IsVersionReading (package_line file p) p.name d p.version y) so (subst (λ l. IsVersionReading l p.name c p.version y) at version),
     )
 
 -- a string is no version for its reason

@@ -1,6 +1,6 @@
--- What is found in documents: in each by itself, in each project beside each lock, and in each export of a lock beside locks.
+-- What is found in documents: in each by itself, and in each project beside each lock.
 use Rattle.std.specs.Prelude.{List, [], ◌∷◌, Option, Some, None, Bool, bytes_eq, false, ◌&&◌, is_some, if◌then◌else◌, codes, ◌||◌, is_none, ◌++◌, ℕ, map, not, true, length, nat_lt, ◌≡◌}
-use Rattle.std.specs.List.{flat_map, list_any, list_all, find, filter, zip, AllZip, All}
+use Rattle.std.specs.List.{flat_map, list_any, list_all, find, filter, zip, AllZip}
 use Rattle.std.specs.Ordering.{eq_by_cmp}
 use Rattle.pep440_ranges.specs.RangeSegments.{contains}
 use Rattle.pep440_rs.specs.Bounds.{Segments}
@@ -9,36 +9,27 @@ use Rattle.pep440_rs.specs.Specifiers.{Spec, spec_cmp}
 use Rattle.pep440_version.specs.Key.{record_cmp}
 use Rattle.pep440_version.specs.Record.{Record}
 use Rattle.toml.specs.Data.{Members, Data, as_str, get_member}
-use Rattle.pyver_documents.specs.DocumentKinds.{lies_above}
 use Rattle.pyver_documents.specs.Meanings.{StringReading, LockedReading, DocumentReading, IsBroken, IsLock, IsProject, ExtraReading, Document, IsDocumentReading}
 use Rattle.pyver_documents.specs.Together.{is_standard, project_python, FindsOfParts}
 use Rattle.pyver_documents.specs.declared.document_kind.DocumentKind.{DocumentKind}
 use Rattle.pyver_documents.specs.declared.document_kind.DocumentKind.TheVariants.{Lock, Project}
-use Rattle.pyver_documents.specs.declared.export_comparison.Export.{Export as ExportValue}
 use Rattle.pyver_findings.specs.Demands.{Demand}
-use Rattle.pyver_findings.specs.Exports.{is_of_uv_lock, AreDemandsOf, is_export}
 use Rattle.pyver_findings.specs.FileLines.{Finding, FileLine, Conflicting, NoRequirement, File}
 use Rattle.pyver_findings.specs.LineMeanings.{LineMeaning}
 use Rattle.pyver_findings.specs.MarkedConflicts.{FindsNothing, FindsOfEach}
 use Rattle.pyver_findings.specs.NamedFiles.{folder}
 use Rattle.pyver_findings.specs.Reports.{invalid_in, left_out_in, Report, demands_in, joined_report, empty_report}
-use Rattle.pyver_findings.specs.Views.{demand_of, file_of}
 use Rattle.pyver_findings.specs.declared.finding.Conflict.TheVariants.{PinOutside}
-use Rattle.pyver_locks.specs.ContentHashes.{hash_table, hash_key, is_stale}
 use Rattle.pyver_locks.specs.KnownEnvironments.{is_left_out_in, environment_name, known_environments, python_record, python_text}
-use Rattle.pyver_locks.specs.LockContents.{LockParts, ContentHash}
+use Rattle.pyver_locks.specs.LockContents.{LockParts}
 use Rattle.pyver_locks.specs.Locks.{is_listed_part}
 use Rattle.pyver_locks.specs.PackageRequirements.{extra_key}
 use Rattle.pyver_locks.specs.declared.known_environment.KnownEnvironment.{KnownEnvironment}
 use Rattle.pyver_locks.specs.declared.lock_kind.LockKind.{LockKind}
-use Rattle.pyver_locks.specs.declared.lock_kind.LockKind.TheVariants.{Uv, Poetry, Pdm, Pylock, Pipfile, Unknown}
-use Rattle.pyver_locks.specs.declared.locked_package.HashRule.{HashRule}
-use Rattle.pyver_projects.specs.ProjectStrings.{Dependencies, Entry, Extra, Group, Section, Constraint, Inclusion, inclusions_by, includes, first_line, key_line, key_path, number_or_one, OwnExtras, inside, listed, text_in}
+use Rattle.pyver_locks.specs.declared.lock_kind.LockKind.TheVariants.{Uv, Poetry, Pdm, Pylock}
+use Rattle.pyver_projects.specs.ProjectStrings.{Dependencies, Entry, Extra, Group, Section, Constraint, Inclusion, inclusions_by, includes, key_line, number_or_one, OwnExtras, inside, listed, text_in}
 use Rattle.pyver_projects.specs.ProjectTables.{has_tool}
-use Rattle.pyver_projects.specs.declared.project.EntryTool.{EntryTool}
 use Rattle.pyver_requirements.specs.declared.cause.Cause.{Cause}
-use Rattle.pyver_locks.specs.declared.locked_package.HashRule.TheVariants as rule
-use Rattle.pyver_projects.specs.declared.project.EntryTool.TheVariants as of_entries
 
 -- ---- a document by itself
 
@@ -131,40 +122,17 @@ has_keys found keys = list_all (λ (k : List ℕ). list_any (bytes_eq k) found) 
 abbrev pub same_extras : List (List ℕ) → List (List ℕ) → Bool
 same_extras extras other = has_keys other extras && has_keys extras other
 
--- a package for the second extras is one for the first, which are asked for, if the lock with these parts has one for each set
-abbrev pub is_for_extras : LockParts → (extras own : List (List ℕ)) → Bool
-is_for_extras parts extras own = not parts.by_extras || same_extras extras own
-
--- the package is for the extras that the requirement asks for
-abbrev pub is_for_demand : LockParts → Demand → LockedReading → Bool
-is_for_demand parts a y = is_for_extras parts a.extras y.extras
-
 -- a requirement that is not there, for this reason
 abbrev pub unmatched : List ℕ → Demand → Finding
 unmatched reason a = NoRequirement a.line reason 0
-
--- why no package is for these extras
-abbrev pub extras_reason : List (List ℕ) → List ℕ
-extras_reason [] = codes "the lock has this package only for extras"
-extras_reason (e ∷ extras) = codes "the lock does not have this extra of the package"
-
--- the first packages may be taken, and none of them, which would be one of the second, is for the extras that the requirement asks for
-abbrev pub without_extras : Demand → (taken needed : List LockedReading) → List Finding
-without_extras a (y ∷ taken) [] = unmatched (extras_reason a.extras) a ∷ []
-without_extras a [] needed = []
-without_extras a (y ∷ taken) (z ∷ needed) = []
 
 -- in some environment none of these packages is there, if the requirement has no marker
 abbrev pub lack_without_marker : LockParts → Demand → List LockedReading → List Finding
 lack_without_marker parts a needed = if is_none a.marker then partly_locked parts a.line needed else []
 
--- of packages that it may take, none is for its extras, or none of those in some environment
-abbrev pub lacks_taken : LockParts → Demand → List LockedReading → List Finding
-lacks_taken parts a taken = without_extras a taken (filter (is_for_demand parts a) taken) ++ lack_without_marker parts a (filter (is_for_demand parts a) taken)
-
--- the lock has no package of the name of the requirement, or none for its extras; or, if that has no marker, in some environment none that it may take
+-- the lock has no package of the name of the requirement; or, if that has no marker, in some environment none that it may take
 abbrev pub unlocked : LockParts → List LockedReading → Demand → List Finding
-unlocked parts ys a = absent ys a ++ lacks_taken parts a (taken_packages ys a)
+unlocked parts ys a = absent ys a ++ lack_without_marker parts a (taken_packages ys a)
 
 -- a tool that builds or installs, which older releases of Poetry do not lock
 abbrev pub is_installer : List ℕ → Bool
@@ -242,23 +210,22 @@ names_groups Pdm parts = nat_lt 0 (length parts)
 names_groups Pylock parts = nat_lt 0 (length parts)
 names_groups _ parts = false
 
--- the lock has what all such tables of the tool ask for
-abbrev pub locks_entries : EntryTool → LockKind → Bool
-locks_entries of_entries.Poetry Poetry = true
-locks_entries of_entries.Pipenv Pipfile = true
-locks_entries _ _ = false
+-- the lock has what all tables of Poetry ask for
+abbrev pub locks_entries : LockKind → Bool
+locks_entries Poetry = true
+locks_entries _ = false
 
 -- a lock with these groups has what this part of the project needs
 abbrev pub is_needed : LockKind → List (List ℕ) → Section → Bool
 is_needed kind parts Dependencies = not (names_groups kind parts) || is_listed_part parts (codes "default")
 is_needed kind parts (Extra name) = locks_extras kind || is_listed_part parts name
 is_needed kind parts (Group name) = locks_groups kind || is_listed_part parts name
-is_needed kind parts (Entry tool table name) = locks_entries tool kind
+is_needed kind parts (Entry table name) = locks_entries kind
 is_needed kind parts _ = false
 
--- the section is of a table of another tool than that of the lock: of Poetry, Pipenv or uv
+-- the section is of a table of another tool than that of the lock: of Poetry or uv
 abbrev pub is_of_other_tool : LockKind → Section → Bool
-is_of_other_tool kind (Entry tool table name) = not (locks_entries tool kind)
+is_of_other_tool kind (Entry table name) = not (locks_entries kind)
 is_of_other_tool kind Constraint = not (locks_groups kind)
 is_of_other_tool kind _ = false
 
@@ -267,28 +234,18 @@ abbrev pub leaves_out : LockKind → List (List ℕ) → Section → Bool
 leaves_out kind parts section = is_of_other_tool kind section || (names_groups kind parts && not (is_needed kind parts section))
 
 -- a lock, in one folder with the project or not, may have what the part needs: but not what builds the project; uv has the constraints of no other
--- project in its workspace, and Pipenv's lock lies beside its Pipfile
+-- project in its workspace
 abbrev pub is_locked : Bool → Section → Bool
 is_locked near Dependencies = true
 is_locked near (Extra name) = true
 is_locked near (Group name) = true
-is_locked near (Entry of_entries.Poetry table name) = true
-is_locked near (Entry of_entries.Pipenv table name) = near
+is_locked near (Entry table name) = true
 is_locked near Constraint = near
 is_locked near _ = false
 
 -- a project overrides the name, and so what tables of the standard require of it
 abbrev pub is_overridden : (List ℕ → Excuse) → Section → List ℕ → Bool
 is_overridden excused section name = is_standard section && (excused name).overrides
-
--- the section is of a table of Pipenv
-abbrev pub is_of_pipenv : Section → Bool
-is_of_pipenv (Entry of_entries.Pipenv table name) = true
-is_of_pipenv _ = false
-
--- a requirement of the section with this marker, or none, is to be met everywhere: Pipenv locks what is asked for under a marker, too
-abbrev pub is_asked_everywhere : Section → Option (List ℕ) → Bool
-is_asked_everywhere section marker = is_none marker || is_of_pipenv section
 
 module _ (kind : LockKind) (parts : LockParts) (names : List (List ℕ)) where
   -- a lock has the package, if it needs it; but not installers, nor the project itself, which by these names may ask for extras of its own
@@ -301,10 +258,10 @@ module _ (kind : LockKind) (parts : LockParts) (names : List (List ℕ)) where
   excluded_in ys section a = if leaves_out kind parts.names section then [] else excluded a ys
 
   module _ (excused : List ℕ → Excuse) (near : Bool) where
-    -- a requirement beside the lock, which counts if it is asked everywhere and no project overrides it
+    -- a requirement beside the lock, which counts if it has no marker and no project overrides it
     abbrev pub compared_demand : List LockedReading → Section → Demand → List Finding
     compared_demand ys section a =
-        if is_asked_everywhere section a.marker then (if is_overridden excused section a.name then [] else missing ys section a ++ excluded_in ys section a) else []
+        if is_none a.marker then (if is_overridden excused section a.name then [] else missing ys section a ++ excluded_in ys section a) else []
 
     -- a string beside the lock
     abbrev pub compared : List LockedReading → StringReading → List Finding
@@ -344,24 +301,6 @@ module _ (kind : LockKind) (parts : LockParts) (excused : List ℕ → Excuse) (
 abbrev pub found_beside : (List ℕ → Excuse) → Bool → DocumentKind → DocumentReading → DocumentReading → List Finding
 found_beside excused near (Lock kind) (IsProject t together names overridden xs) (IsLock parts python ys ms os es fs) = flat_map (compared kind parts names excused near ys) xs ++ unmet_extras kind parts excused near ys os xs
 found_beside excused near kind x y = []
-
--- the number of its line in the text of a lock: in JSON the first with the key in quotes
-abbrev pub hash_number : List ℕ → HashRule → Option ℕ
-hash_number text rule.Pipenv = first_line text (codes "sha256")
-hash_number text by = key_line text (key_path (hash_table by) (hash_key by))
-
--- the line of the hash in the lock
-abbrev pub hash_line : File → HashRule → FileLine
-hash_line lock by = record { file = lock.name; number = number_or_one (hash_number lock.text by); text = hash_key by; comment = [] }
-
--- that the lock is out of date
-abbrev pub stale_finding : File → HashRule → Finding
-stale_finding lock by = NoRequirement (hash_line lock by) (codes "not the hash of the project: the lock is out of date") 0
-
--- the project with this table does not have the hash that the lock has
-abbrev pub stale_by : File → Members → Option ContentHash → List Finding
-stale_by lock t None = []
-stale_by lock t (Some hash) = if is_stale hash t then stale_finding lock hash.rule ∷ [] else []
 
 -- ---- what `uv.lock` says that the project in its folder requires
 
@@ -428,7 +367,7 @@ has_dynamic project = list_any (λ (d : Data). is_dynamic (as_str d)) (listed (i
 -- these tables have all that uv reads of what the project requires, and nothing that it does not read
 abbrev pub is_plain_for_uv : Members → Bool
 is_plain_for_uv t = is_some (text_in (inside (codes "name") (get_member (codes "project") t))) && (not (has_dynamic (get_member (codes "project") t))
-    && (not (has_tool (codes "poetry") t) && (not (has_tool (codes "rye") t) && not (has_tool (codes "pdm") t))))
+    && (not (has_tool (codes "poetry") t) && not (has_tool (codes "pdm") t)))
 
 -- the names by which a project asks for extras of its own, if uv may write what these require in place of them: where its version is not in the table
 abbrev pub replaced_names : Members → List (List ℕ) → List (List ℕ)
@@ -467,10 +406,10 @@ python_difference lock (Some own) (Some locked) = first_difference lock (find (i
 python_difference lock (Some own) None = []
 python_difference lock None locked = []
 
--- the first document, if it is a project, does not have the hash of the second, if this is a lock, in this file, or other versions of Python or requirements
+-- the first document, if it is a project, has other versions of Python or requirements than the second, if this is a lock, in this file
 abbrev pub stale_beside : File → DocumentReading → DocumentReading → List Finding
 stale_beside lock (IsProject t together names overridden xs) (IsLock parts python ys ms os es fs) =
-    stale_by lock t parts.hash ++ (python_difference lock (project_python xs) python ++ (if is_plain_for_uv t then differing (replaced_names t names) xs es else []))
+    python_difference lock (project_python xs) python ++ (if is_plain_for_uv t then differing (replaced_names t names) xs es else [])
 stale_beside lock x y = []
 
 -- ---- which lock is compared with which project
@@ -479,51 +418,32 @@ abbrev pub is_project : DocumentKind → Bool
 is_project Project = true
 is_project (Lock kind) = false
 
--- the document is a project in the folder of the lock, or in one below
-abbrev pub is_below : Document → Document → Bool
-is_below lock d = is_project d.kind && lies_above lock.file.name d.file.name
+-- a lock belongs to the project in its folder, and a lock of uv to those in the folders of its members, too
+abbrev pub belongs : LockParts → (lock project : List ℕ) → Bool
+belongs parts lock project = bytes_eq (folder lock) (folder project) || list_any (λ m. bytes_eq (folder lock ++ m) (folder project)) parts.members
 
-abbrev pub same_lock_kind : LockKind → LockKind → Bool
-same_lock_kind Pylock Pylock = true
-same_lock_kind Uv Uv = true
-same_lock_kind Poetry Poetry = true
-same_lock_kind Pdm Pdm = true
-same_lock_kind Pipfile Pipfile = true
-same_lock_kind Unknown Unknown = true
-same_lock_kind _ _ = false
+-- the document with this name that was read so is a lock that belongs to the project with this name
+abbrev pub is_beside : (project lock : List ℕ) → DocumentReading → Bool
+is_beside project lock (IsLock parts python ys ms os es fs) = belongs parts lock project
+is_beside project lock (IsProject t together names overridden xs) = false
+is_beside project lock (IsBroken f) = false
 
--- both are locks of one kind
-abbrev pub same_kind : DocumentKind → DocumentKind → Bool
-same_kind (Lock one) (Lock other) = same_lock_kind one other
-same_kind Project other = false
-same_kind (Lock one) Project = false
-
--- the document is a lock of the same kind in a folder nearer to the project
-abbrev pub is_nearer : Document → Document → Document → Bool
-is_nearer project lock d = same_kind lock.kind d.kind && (lies_above d.file.name project.file.name && nat_lt (length (folder lock.file.name)) (length (folder d.file.name)))
-
--- a lock counts for the projects in its folder and below that have none of its kind nearer, or for all, if there is none
-abbrev pub is_beside : List Document → Document → Document → Bool
-is_beside documents project lock =
-    if list_any (is_below lock) documents then lies_above lock.file.name project.file.name && not (list_any (is_nearer project lock) documents)
-    else true
-
--- both are in one folder: a lock has the hash of the project there, and of none below
+-- both are in one folder: a lock says what the project there requires, and none below
 abbrev pub in_one_folder : Document → Document → Bool
 in_one_folder one other = bytes_eq (folder one.file.name) (folder other.file.name)
 
--- the hash of a lock beside a project
+-- a lock in the folder of a project
 abbrev pub stale_in_pair : Document × DocumentReading → Document × DocumentReading → List Finding
 stale_in_pair a b = if in_one_folder a.0 b.0 then stale_beside b.0.file a.1 b.1 else []
 
 module _ (excused : List ℕ → Excuse) where
   -- a document that was read beside another, if it is compared with it
-  abbrev pub found_in_pair : List Document → Document × DocumentReading → Document × DocumentReading → List Finding
-  found_in_pair documents a b = if is_beside documents a.0 b.0 then stale_in_pair a b ++ found_beside excused (in_one_folder a.0 b.0) b.0.kind a.1 b.1 else []
+  abbrev pub found_in_pair : Document × DocumentReading → Document × DocumentReading → List Finding
+  found_in_pair a b = if is_beside a.0.file.name b.0.file.name b.1 then stale_in_pair a b ++ found_beside excused (in_one_folder a.0 b.0) b.0.kind a.1 b.1 else []
 
   -- a document beside each of these
-  abbrev pub beside_all : List Document → List (Document × DocumentReading) → Document × DocumentReading → List Finding
-  beside_all documents others a = flat_map (found_in_pair documents a) others
+  abbrev pub beside_all : List (Document × DocumentReading) → Document × DocumentReading → List Finding
+  beside_all others a = flat_map (found_in_pair a) others
 
 -- ---- all documents
 
@@ -533,7 +453,7 @@ with_findings a found = record { findings = a.findings ++ found; ignored = a.ign
 
 -- the report of documents that were read: of each by itself, in order, and then of each project beside each lock that counts for it
 abbrev pub documents_report : List Document → List DocumentReading → Report
-documents_report documents xs = with_findings (with_own_reports (is_excused xs) empty_report xs) (flat_map (beside_all (is_excused xs) documents (zip documents xs)) (zip documents xs))
+documents_report documents xs = with_findings (with_own_reports (is_excused xs) empty_report xs) (flat_map (beside_all (is_excused xs) (zip documents xs)) (zip documents xs))
 
 -- of a project the requirements that hold together and have no version in common
 abbrev pub FindsOfReading : DocumentReading → List Finding → List Cause → Type 0
@@ -549,68 +469,3 @@ with_found a fs cs = record { findings = a.findings ++ fs; ignored = a.ignored; 
 abbrev pub IsDocumentsReport : List Document → Report → Type 0
 IsDocumentsReport documents r = (xs : List DocumentReading) × AllZip IsDocumentReading documents xs
     × (fs : List Finding) × (cs : List Cause) × FindsOfEach FindsOfReading xs fs cs × (r ≡ with_found (documents_report documents xs) fs cs)
-
--- ---- exports beside locks
-
--- a project with this path
-abbrev pub project_at : List ℕ → Document
-project_at path = record { kind = Project; file = record { name = path; text = [] } }
-
--- a lock counts for the file with this path, if it lies in its folder or in one above, and none of its kind in one that is nearer
-abbrev pub counts_for : List Document → List ℕ → Document → Bool
-counts_for documents path lock = lies_above lock.file.name path && not (list_any (is_nearer (project_at path) lock) documents)
-
--- a requirement of an export beside these packages, if it names a version: the lock that the export was made of has none of the name; or it
--- has some, in no version that the list contains. What the export says of environments does not count, since it has the versions of the lock
-abbrev pub pin_beside : Bool → List LockedReading → Demand → List Finding
-pin_beside made ys a = if a.pinned then (if made then absent ys a else []) ++ excluded a ys else []
-
-abbrev pub is_uv_lock : DocumentKind → Bool
-is_uv_lock (Lock Uv) = true
-is_uv_lock _ = false
-
--- it says that it was made of the lock of this kind
-abbrev pub is_made_of : DocumentKind → File → Bool
-is_made_of kind f = is_uv_lock kind && is_of_uv_lock f.text
-
--- an export and what its lines ask for
-pub record Export : Type 0 where
-  pub file : File
-  pub demands : List Demand
-
--- what is found of an export beside a document of this kind, if that is a lock
-abbrev pub pins_beside : Export → DocumentKind → DocumentReading → List Finding
-pins_beside e kind (IsLock parts python ys ms os es fs) = flat_map (pin_beside (is_made_of kind e.file) ys) e.demands
-pins_beside e kind (IsProject t together names overridden xs) = []
-pins_beside e kind (IsBroken f) = []
-
--- beside a document that was read, if it counts for the export
-abbrev pub found_in_export : List Document → Export → Document × DocumentReading → List Finding
-found_in_export documents e b = if counts_for documents e.file.name b.0 then pins_beside e b.0.kind b.1 else []
-
--- beside each of these
-abbrev pub found_of_export : List Document → List (Document × DocumentReading) → Export → List Finding
-found_of_export documents pairs e = flat_map (found_in_export documents e) pairs
-
-abbrev pub export_of : ExportValue → Export
-export_of e = record { file = file_of e.file.now; demands = map demand_of e.demands.items }
-
-abbrev pub file_of_export : Export → File
-file_of_export e = e.file
-
--- each has the requirements of its file
-abbrev pub HasDemands : Export → Type 0
-HasDemands e = AreDemandsOf e.file e.demands
-
--- those of the files that are exports
-abbrev pub AreExports : List File → List Export → Type 0
-AreExports files es = (map file_of_export es ≡ filter is_export files) × All HasDemands es
-
--- what is found of the exports beside the documents, which are read if there are some
-abbrev pub FindsOfExports : List Document → List Export → List Finding → Type 0
-FindsOfExports documents [] found = found ≡ []
-FindsOfExports documents (e ∷ es) found = (xs : List DocumentReading) × AllZip IsDocumentReading documents xs × (found ≡ flat_map (found_of_export documents (zip documents xs)) (e ∷ es))
-
--- the report of exports beside documents: only findings
-abbrev pub IsExportsReport : List File → List Document → Report → Type 0
-IsExportsReport files documents r = (es : List Export) × AreExports files es × (found : List Finding) × FindsOfExports documents es found × (r ≡ with_findings empty_report found)

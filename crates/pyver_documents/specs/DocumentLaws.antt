@@ -17,24 +17,22 @@ use Rattle.pep440_version.specs.Record.{Record}
 use Rattle.pep440_version.specs.Rejections.{Rejection, Rejects}
 use Rattle.toml.specs.Data.{Members}
 use Rattle.toml.specs.Parse.{parse_document}
-use Rattle.pyver_documents.specs.Comparing.{is_for_extras, is_asked_everywhere, is_needed, leaves_out, Excuse, project_asks, lack_in, extras_reason, stale_finding, python_finding, same_extras, same_list, is_plain_for_uv, is_declared, unentered_reason, unrequired_reason, IsDocumentsReport, is_beside, is_locked, is_installer, python_minors, replaced_names, counts_for, is_made_of, IsExportsReport}
+use Rattle.pyver_documents.specs.Comparing.{is_needed, leaves_out, Excuse, project_asks, lack_in, python_finding, same_extras, same_list, is_plain_for_uv, is_declared, unentered_reason, unrequired_reason, IsDocumentsReport, belongs, is_locked, is_installer, python_minors, replaced_names}
 use Rattle.pyver_documents.specs.DocumentKinds.{locked}
 use Rattle.pyver_documents.specs.Meanings.{Document, package_line, groups, IsSectionMeaning, string_line, extra_inclusions, IsStringReading, StringReading, file_meaning, is_of_version, fault_meaning, ExtraReading, IsExtraReading, requirement_line, AreLockedPythons, Groups, has_own_extras}
 use Rattle.pyver_documents.specs.Together.{has_extra, has_group, holds_in, project_domain, project_python, is_replaced, part_demands, section_part}
 use Rattle.pyver_documents.specs.declared.document_kind.DocumentKind.{DocumentKind}
 use Rattle.pyver_documents.specs.declared.document_kind.DocumentKind.TheVariants.{Lock, Project}
 use Rattle.pyver_findings.specs.Conflicts.{has_same_name, unmarked}
-use Rattle.pyver_findings.specs.Demands.{Demand, is_pinned}
-use Rattle.pyver_findings.specs.Exports.{is_export}
-use Rattle.pyver_findings.specs.FileLines.{File, FileLine, Finding, NoRequirement, Conflicting, file_lines}
-use Rattle.pyver_findings.specs.FindingLaws.{HasMarker, IsRightConflict, HaveNone, IsOneIn, IsUndecided, AreAlike, IsRequirementLine}
+use Rattle.pyver_findings.specs.Demands.{Demand}
+use Rattle.pyver_findings.specs.FileLines.{File, FileLine, Finding, NoRequirement, Conflicting}
+use Rattle.pyver_findings.specs.FindingLaws.{HasMarker, IsRightConflict, HaveNone, IsOneIn, IsUndecided, AreAlike}
 use Rattle.pyver_findings.specs.LineMeanings.{IsPlain, IsNone}
 use Rattle.pyver_findings.specs.NamedFiles.{folder}
 use Rattle.pyver_findings.specs.Reports.{Report}
 use Rattle.pyver_findings.specs.declared.finding.Conflict.TheVariants.{PinOutside}
-use Rattle.pyver_locks.specs.ContentHashes.{hash_of, is_known_text, hashed_texts}
 use Rattle.pyver_locks.specs.KnownEnvironments.{is_for, known_environment, python_record, known_environments}
-use Rattle.pyver_locks.specs.LockContents.{LockContents, LockedPackage, LockParts, PackageCondition, LockedRequirement, LockedFile, LockFault, LockedExtra, ContentHash}
+use Rattle.pyver_locks.specs.LockContents.{LockContents, LockedPackage, LockParts, PackageCondition, LockedRequirement, LockedFile, LockFault, LockedExtra}
 use Rattle.pyver_locks.specs.declared.known_environment.KnownEnvironment.{KnownEnvironment}
 use Rattle.pyver_locks.specs.declared.lock_kind.LockKind.{LockKind}
 use Rattle.pyver_markers.specs.Conditions.{Domain, IsEnvironment}
@@ -42,7 +40,7 @@ use Rattle.pyver_markers.specs.Environments.{Environment}
 use Rattle.pyver_markers.specs.MarkerValues.{value}
 use Rattle.pyver_projects.specs.ProjectStrings.{ProjectString, Section, Inclusion, includes}
 use Rattle.pyver_projects.specs.ProjectTables.{sources, has_group_tool, overridden_names, project_names}
-use Rattle.pyver_requirements.specs.LineParts.{line_parts, pip_parts}
+use Rattle.pyver_requirements.specs.LineParts.{line_parts}
 use Rattle.pyver_requirements.specs.MarkerGrammar.{DenotesMarker, Marker}
 
 -- the file is TOML in UTF-8 with this table
@@ -53,7 +51,7 @@ HasTable file t = IsUtf8 file.text × (parse_document file.text ≡ Some t)
 abbrev pub HasContents : LockKind → File → LockContents → Type 0
 HasContents kind file l = IsUtf8 file.text × (locked kind file.text ≡ Some l)
 
--- a file of this kind is TOML, or JSON, in UTF-8
+-- a file of this kind is TOML in UTF-8
 abbrev pub IsReadableAs : DocumentKind → File → Type 0
 IsReadableAs Project file = (t : Members) × HasTable file t
 IsReadableAs (Lock kind) file = (l : LockContents) × HasContents kind file l
@@ -102,17 +100,17 @@ IsLeftOut parts k p = (c : PackageCondition) × (list : List Spec) × (p.conditi
 abbrev pub IsOutsideList : List Spec → LockedPackage → Type 0
 IsOutsideList list p = (text : List ℕ) × (v : Record) × (p.version ≡ Some text) × Derives text v × (list_matches_literally list v ≡ false)
 
--- a package of a lock with these parts is none that the requirement may take, or for other extras
-abbrev pub CannotBe : LockParts → Needed → LockedPackage → Type 0
-CannotBe parts n p = (same_name n.name p.name ≡ false) ⊎ (IsOutsideList n.specifiers p ⊎ (is_for_extras parts (map normal n.extras) p.extras ≡ false))
+-- a package is none that the requirement may take
+abbrev pub CannotBe : Needed → LockedPackage → Type 0
+CannotBe n p = (same_name n.name p.name ≡ false) ⊎ IsOutsideList n.specifiers p
 
 -- it does not meet the requirement in the environment
 abbrev pub CannotMeet : LockParts → Needed → KnownEnvironment → LockedPackage → Type 0
-CannotMeet parts n k p = CannotBe parts n p ⊎ IsLeftOut parts k p
+CannotMeet parts n k p = CannotBe n p ⊎ IsLeftOut parts k p
 
 -- it meets it there
 abbrev pub MeetsIn : LockParts → Needed → KnownEnvironment → LockedPackage → Type 0
-MeetsIn parts n k p = IsTrue (same_name n.name p.name) × (¬ IsOutsideList n.specifiers p) × IsTrue (is_for_extras parts (map normal n.extras) p.extras) × (¬ IsLeftOut parts k p)
+MeetsIn parts n k p = IsTrue (same_name n.name p.name) × (¬ IsOutsideList n.specifiers p) × (¬ IsLeftOut parts k p)
 
 -- what a requirement of a locked package with this list is
 abbrev pub needed_by : LockedRequirement → List Spec → Needed
@@ -121,11 +119,6 @@ needed_by q list = record { name = q.name; extras = q.extras; specifiers = list 
 -- the string is this requirement, and has no marker and no URL
 abbrev pub AlwaysAsks : ProjectString → Needed → Type 0
 AlwaysAsks s n = IsPlain (line_parts s.text).requirement × DerivesRequirement (line_parts s.text).requirement n × ((line_parts s.text).marker ≡ None) × ((line_parts s.text).url ≡ None)
-
--- the string is this requirement, which its lock is to meet everywhere, and has no URL
-abbrev pub AsksEverywhere : ProjectString → Needed → Type 0
-AsksEverywhere s n = IsPlain (line_parts s.text).requirement × DerivesRequirement (line_parts s.text).requirement n
-    × ((m : Option (List ℕ)) × HasMarker (line_parts s.text) m × IsTrue (is_asked_everywhere s.section m)) × ((line_parts s.text).url ≡ None)
 
 -- ---- findings
 
@@ -213,10 +206,6 @@ pub record IsLockFault (documents : List Document) (f : Finding) : Type 0 where
   pub within : Contains contents.faults fault
   pub is : IsNone f ≡ fault_meaning lock.name fault
 
--- the text is known, and has another hash
-abbrev pub HasOtherHash : List ℕ → List ℕ → Type 0
-HasOtherHash value text = IsTrue (is_known_text text) × (value ≢ hash_of text)
-
 -- the project needs a package, and some lock has none of its name
 pub record IsMissing (documents : List Document) (f : Finding) : Type 0 where
   pub file : File
@@ -227,7 +216,7 @@ pub record IsMissing (documents : List Document) (f : Finding) : Type 0 where
   pub needed : Needed
   pub has : HasString documents file string
   pub counts : is_needed kind contents.parts.names string.section ≡ true
-  pub asks : AsksEverywhere string needed
+  pub asks : AlwaysAsks string needed
   pub known : HasLock documents kind lock contents
   pub none : All (λ (p : LockedPackage). same_name needed.name p.name ≡ false) contents.packages
   pub is : f ≡ NoRequirement (string_line file string) (codes "the lock has no package of this name") 0
@@ -250,7 +239,7 @@ pub record IsExcluded (documents : List Document) (f : Finding) : Type 0 where
   pub needed : Needed
   pub has : HasString documents file string
   pub counts : leaves_out kind contents.parts.names string.section ≡ false
-  pub asks : AsksEverywhere string needed
+  pub asks : AlwaysAsks string needed
   pub known : HasLock documents kind lock contents
   pub outside : IsOutside lock.name contents.packages needed.name needed.specifiers (string_line file string) f
 
@@ -326,38 +315,6 @@ pub record IsPartlyAbsent (documents : List Document) (f : Finding) : Type 0 whe
   pub read : DerivesList requirement.list list
   pub always : requirement.is_reference ≡ false
   pub lack : IsLack contents.parts contents.packages (needed_by requirement list) (requirement_line lock.name requirement) f
-
--- on this line a project that needs it, or a package of a lock with this, asks for it
-abbrev pub AsksOn : List Document → LockKind → File → LockContents → Needed → FileLine → Type 0
-AsksOn documents kind lock l n line = ((file : File) × (s : ProjectString) × HasString documents file s × (is_needed kind l.parts.names s.section ≡ true) × AsksEverywhere s n × (line ≡ string_line file s))
-    ⊎ ((q : LockedRequirement) × (list : List Spec) × IsRequired documents kind lock l q × (n ≡ needed_by q list) × (line ≡ requirement_line lock.name q))
-
--- a lock with a package for each set of extras has none for those that a requirement asks for
-pub record IsExtraAbsent (documents : List Document) (f : Finding) : Type 0 where
-  pub lock : File
-  pub kind : LockKind
-  pub contents : LockContents
-  pub needed : Needed
-  pub line : FileLine
-  pub known : HasLock documents kind lock contents
-  pub asks : AsksOn documents kind lock contents needed line
-  pub none : All (CannotBe contents.parts needed) contents.packages
-  pub is : f ≡ NoRequirement line (extras_reason (map normal needed.extras)) 0
-
--- a lock does not have the hash of the project in its folder
-pub record IsStale (documents : List Document) (f : Finding) : Type 0 where
-  pub file : File
-  pub table : Members
-  pub lock : File
-  pub kind : LockKind
-  pub contents : LockContents
-  pub hash : ContentHash
-  pub has : HasProject documents file table
-  pub known : HasLock documents kind lock contents
-  pub beside : folder file.name ≡ folder lock.name
-  pub written : contents.parts.hash ≡ Some hash
-  pub none : All (HasOtherHash hash.value) (hashed_texts hash.rule table)
-  pub is : f ≡ stale_finding lock hash.rule
 
 -- the versions of Python of a project, as a set, and those of which a lock with this says that the project in its folder is
 pub record HavePythons (file : File) (t : Members) (l : LockContents) (own locked : Segments) : Type 0 where
@@ -438,7 +395,7 @@ pub record IsUnrequired (documents : List Document) (f : Finding) : Type 0 where
 -- the finding is right
 abbrev pub IsDocumentFinding : List Document → Finding → Type 0
 IsDocumentFinding documents f = IsInvalidString documents f
-    ⊎ (IsInvalidPackage documents f ⊎ (IsUnread documents f ⊎ (IsMissing documents f ⊎ (IsExcluded documents f ⊎ (IsConflict documents f ⊎ (IsUnmet documents f ⊎ (IsAbsent documents f ⊎ (IsOtherFile documents f ⊎ (IsLockFault documents f ⊎ (IsPartlyMissing documents f ⊎ (IsPartlyAbsent documents f ⊎ (IsStale documents f ⊎ (IsUnentered documents f ⊎ (IsUnrequired documents f ⊎ (IsOtherPython documents f ⊎ IsExtraAbsent documents f)))))))))))))))
+    ⊎ (IsInvalidPackage documents f ⊎ (IsUnread documents f ⊎ (IsMissing documents f ⊎ (IsExcluded documents f ⊎ (IsConflict documents f ⊎ (IsUnmet documents f ⊎ (IsAbsent documents f ⊎ (IsOtherFile documents f ⊎ (IsLockFault documents f ⊎ (IsPartlyMissing documents f ⊎ (IsPartlyAbsent documents f ⊎ (IsUnentered documents f ⊎ (IsUnrequired documents f ⊎ IsOtherPython documents f)))))))))))))
 
 -- each finding is right
 abbrev pub DocumentFindingsHold : Type 0
@@ -458,8 +415,8 @@ replaces s name t = is_replaced (overridden_names t) s.section (normal name)
 -- has one
 abbrev pub AllContained : List Document → Type 0
 AllContained documents = (file lock : File) (kind : LockKind) (l : LockContents) (s : ProjectString) (p : LockedPackage) (n : Needed) (v : Record)
-    → HasString documents file s → HasLock documents kind lock l → Contains l.packages p → IsTrue (is_beside documents (record { kind = Project; file = file }) (record { kind = Lock kind; file = lock }))
-    → IsTrue (is_locked (bytes_eq (folder file.name) (folder lock.name)) s.section) → leaves_out kind l.parts.names s.section ≡ false → AsksEverywhere s n → ((other : File) (t : Members) → HasProject documents other t → replaces s n.name t ≡ false)
+    → HasString documents file s → HasLock documents kind lock l → Contains l.packages p → IsTrue (belongs l.parts lock.name file.name)
+    → IsTrue (is_locked (bytes_eq (folder file.name) (folder lock.name)) s.section) → leaves_out kind l.parts.names s.section ≡ false → AlwaysAsks s n → ((other : File) (t : Members) → HasProject documents other t → replaces s n.name t ≡ false)
     → LocksVersion n.name p v → SomeContained l.packages n.name n.specifiers
 
 -- the list of the requirement contains a version of its name in the same lock, if that has one
@@ -486,29 +443,6 @@ abbrev pub AllPresent : List Document → Type 0
 AllPresent documents = (lock file : File) (kind : LockKind) (l : LockContents) (t : Members) (q : LockedRequirement) (list : List Spec) → HasLock documents kind lock l → Contains l.requirements q → DerivesList q.list list
     → HasProject documents file t → ((other : File) (u : Members) → HasProject documents other u → IsOtherProject q.name u × (overrides q.name u ≡ false)) → is_installer (normal q.name) ≡ false → IsPresent l q list
 
--- no project excuses or overrides a name
-abbrev pub no_excuse : List ℕ → Excuse
-no_excuse name = record { lacks = false; overrides = false }
-
--- a project in this file asks for the extra with this key in a lock with this that counts for it, itself or through what other extras require, where no
--- project overrides anything
-pub record AlwaysAsksForExtra (documents : List Document) (file lock : File) (kind : LockKind) (l : LockContents) (key : List ℕ) : Type 0 where
-  pub table : Members
-  pub strings : List StringReading
-  pub extras : List ExtraReading
-  pub has : HasProject documents file table
-  pub counts : IsTrue (is_beside documents (record { kind = Project; file = file }) (record { kind = Lock kind; file = lock }))
-  pub kept : (other : File) (u : Members) → HasProject documents other u → overridden_names u ≡ []
-  pub read : AllZip (IsStringReading (groups table) file) (sources table) strings
-  pub required : AllZip (IsExtraReading lock.name) l.optional extras
-  pub asks : IsTrue (includes (project_asks kind l.parts no_excuse (bytes_eq (folder file.name) (folder lock.name)) strings extras) [] key)
-
--- what a package requires for such an extra contains a version in the same lock, and is present, if no project has its name and it is no installer
-abbrev pub AllExtrasMet : List Document → Type 0
-AllExtrasMet documents = (file lock : File) (kind : LockKind) (l : LockContents) (o : LockedExtra) (list : List Spec) → HasLock documents kind lock l → Contains l.optional o → AlwaysAsksForExtra documents file lock kind l o.key
-    → DerivesList o.requirement.list list → ContainsVersion l o.requirement list
-    × (((other : File) (u : Members) → HasProject documents other u → IsOtherProject o.requirement.name u) → is_installer (normal o.requirement.name) ≡ false → IsPresent l o.requirement list)
-
 -- each file of a package of a lock whose name has a version has that of the package
 abbrev pub AllOfVersion : List Document → Type 0
 AllOfVersion documents = (lock : File) (kind : LockKind) (l : LockContents) (f : LockedFile) (r q : Record) → HasLock documents kind lock l → Contains l.files f → Derives f.version r → Derives f.written q
@@ -518,16 +452,10 @@ AllOfVersion documents = (lock : File) (kind : LockKind) (l : LockContents) (f :
 abbrev pub AllAlone : List Document → Type 0
 AllAlone documents = (lock : File) (kind : LockKind) (l : LockContents) → HasLock documents kind lock l → l.faults ≡ []
 
--- each lock with a hash has that of the project in its folder, if what is hashed is known
-abbrev pub AllFresh : List Document → Type 0
-AllFresh documents = (file lock : File) (kind : LockKind) (l : LockContents) (t : Members) (hash : ContentHash) → HasProject documents file t → HasLock documents kind lock l
-    → IsTrue (is_beside documents (record { kind = Project; file = file }) (record { kind = Lock kind; file = lock })) → folder file.name ≡ folder lock.name → l.parts.hash ≡ Some hash
-    → (text : List ℕ) × Contains (hashed_texts hash.rule t) text × (IsTrue (is_known_text text) → hash.value ≡ hash_of text)
-
 -- each lock that says for which versions of Python the project in its folder is says the same as this
 abbrev pub AllOfOnePython : List Document → Type 0
 AllOfOnePython documents = (file lock : File) (kind : LockKind) (l : LockContents) (t : Members) (own locked : Segments) (minor : ℕ) → HasProject documents file t → HasLock documents kind lock l
-    → IsTrue (is_beside documents (record { kind = Project; file = file }) (record { kind = Lock kind; file = lock })) → folder file.name ≡ folder lock.name → HavePythons file t l own locked
+    → IsTrue (belongs l.parts lock.name file.name) → folder file.name ≡ folder lock.name → HavePythons file t l own locked
     → Contains python_minors minor → contains record_cmp own (python_record minor) ≡ contains record_cmp locked (python_record minor)
 
 -- the name is not one by which the project asks for extras of its own that uv may replace
@@ -537,19 +465,19 @@ IsWrittenName name t = list_any (bytes_eq (normal name)) (replaced_names t (proj
 -- each requirement of a project is one that the lock in its folder says it has, where that says some
 abbrev pub AllEntered : List Document → Type 0
 AllEntered documents = (file lock : File) (kind : LockKind) (l : LockContents) (t : Members) (s : ProjectString) (n : Needed) → AreTogether documents file t lock kind l
-    → IsTrue (is_beside documents (record { kind = Project; file = file }) (record { kind = Lock kind; file = lock })) → nat_lt 0 (length l.entries) ≡ true
+    → IsTrue (belongs l.parts lock.name file.name) → nat_lt 0 (length l.entries) ≡ true
     → Contains (sources t) s → IsDeclared (groups t) s.section → Requires s n → IsWrittenName n.name t → (q : LockedRequirement) × Contains l.entries q × IsEntryFor n q
 
 -- and each that it says the project has, without a source of its own, is one of the project
 abbrev pub AllRequired : List Document → Type 0
 AllRequired documents = (file lock : File) (kind : LockKind) (l : LockContents) (t : Members) (q : LockedRequirement) (list : List Spec) → AreTogether documents file t lock kind l
-    → IsTrue (is_beside documents (record { kind = Project; file = file }) (record { kind = Lock kind; file = lock }))
+    → IsTrue (belongs l.parts lock.name file.name)
     → Contains l.entries q → DerivesList q.list list → q.is_reference ≡ false → IsWrittenName q.name t
     → (s : ProjectString) × (n : Needed) × Contains (sources t) s × IsDeclared (groups t) s.section × Requires s n × IsEntryFor n q
 
 -- where nothing is found, they do
 abbrev pub NoFindingImpliesContained : Type 0
-NoFindingImpliesContained = (documents : List Document) (r : Report) → IsDocumentsReport documents r → r.findings ≡ [] → AllContained documents × (AllMet documents × (AllPresent documents × (AllExtrasMet documents × (AllOfVersion documents × (AllAlone documents × (AllFresh documents × (AllEntered documents × (AllRequired documents × AllOfOnePython documents))))))))
+NoFindingImpliesContained = (documents : List Document) (r : Report) → IsDocumentsReport documents r → r.findings ≡ [] → AllContained documents × (AllMet documents × (AllPresent documents × (AllOfVersion documents × (AllAlone documents × (AllEntered documents × (AllRequired documents × AllOfOnePython documents))))))
 
 -- the lines are the requirements of a part of a project, which is installed in the environments of the domain
 pub record IsPart (documents : List Document) (d : Domain) (lines : List Demand) : Type 0 where
@@ -579,69 +507,7 @@ NoFindingImpliesSatisfiable = (documents : List Document) (r : Report) → IsDoc
 
 -- ---- one report
 
--- documents that are TOML or JSON in UTF-8 have at most one report in which nothing is undecided, but for the environments that it names
+-- documents that are TOML in UTF-8 have at most one report in which nothing is undecided, but for the environments that it names
 abbrev pub DocumentReportsOnce : Type 0
 DocumentReportsOnce = (documents : List Document) (r s : Report) → All IsReadable documents → IsDocumentsReport documents r → IsDocumentsReport documents s
     → ¬ IsUndecided r → ¬ IsUndecided s → AreAlike r s
-
--- ---- exports beside locks
-
--- one of the files is an export, and has this line
-abbrev pub HasExportLine : List File → File → FileLine → Type 0
-HasExportLine files file line = Contains files file × IsTrue (is_export file) × Contains (file_lines file) line
-
--- the line is a requirement, which names a version, whatever its marker
-abbrev pub IsPin : FileLine → Needed → Type 0
-IsPin line n = IsRequirementLine line × ((pip_parts line.text).url ≡ None) × DerivesRequirement (pip_parts line.text).requirement n × IsTrue (is_pinned n.specifiers)
-
--- one of the documents is a lock of this kind in this file, has this, and counts for the file with this path
-abbrev pub HasLockFor : List Document → List ℕ → LockKind → File → LockContents → Type 0
-HasLockFor documents path kind lock l = HasLock documents kind lock l × IsTrue (counts_for documents path (record { kind = Lock kind; file = lock }))
-
--- the list of a pin of an export contains no version of a package of its name in a lock that counts for it
-pub record IsOtherPin (files : List File) (documents : List Document) (f : Finding) : Type 0 where
-  pub file : File
-  pub line : FileLine
-  pub needed : Needed
-  pub lock : File
-  pub kind : LockKind
-  pub contents : LockContents
-  pub has : HasExportLine files file line
-  pub derives : DerivesRequirement (pip_parts line.text).requirement needed
-  pub pins : IsTrue (is_pinned needed.specifiers)
-  pub known : HasLockFor documents file.name kind lock contents
-  pub outside : IsOutside lock.name contents.packages needed.name needed.specifiers line f
-
--- no package of the lock that an export was made of has the name of a pin
-pub record IsUnlockedPin (files : List File) (documents : List Document) (f : Finding) : Type 0 where
-  pub file : File
-  pub line : FileLine
-  pub needed : Needed
-  pub lock : File
-  pub kind : LockKind
-  pub contents : LockContents
-  pub has : HasExportLine files file line
-  pub derives : DerivesRequirement (pip_parts line.text).requirement needed
-  pub pins : IsTrue (is_pinned needed.specifiers)
-  pub known : HasLockFor documents file.name kind lock contents
-  pub made : IsTrue (is_made_of (Lock kind) file)
-  pub none : All (λ (p : LockedPackage). same_name needed.name p.name ≡ false) contents.packages
-  pub is : f ≡ NoRequirement line (codes "the lock has no package of this name") 0
-
--- each finding is right
-abbrev pub ExportFindingsHold : Type 0
-ExportFindingsHold = (files : List File) (documents : List Document) (r : Report) → IsExportsReport files documents r → All (λ (f : Finding). IsOtherPin files documents f ⊎ IsUnlockedPin files documents f) r.findings
-
--- where nothing is found, each pin of an export contains a version of its name in each lock that counts for it and has one, and the lock that it was made of has
--- a package of that name
-abbrev pub AllPinned : List File → List Document → Type 0
-AllPinned files documents = (file lock : File) (kind : LockKind) (l : LockContents) (line : FileLine) (n : Needed) → HasExportLine files file line → IsPin line n → HasLockFor documents file.name kind lock l
-    → ((p : LockedPackage) (v : Record) → Contains l.packages p → LocksVersion n.name p v → SomeContained l.packages n.name n.specifiers)
-    × (IsTrue (is_made_of (Lock kind) file) → (p : LockedPackage) × Contains l.packages p × IsTrue (same_name n.name p.name))
-
-abbrev pub NoFindingImpliesPinned : Type 0
-NoFindingImpliesPinned = (files : List File) (documents : List Document) (r : Report) → IsExportsReport files documents r → r.findings ≡ [] → AllPinned files documents
-
--- there is one report, if the documents are readable
-abbrev pub ExportReportsOnce : Type 0
-ExportReportsOnce = (files : List File) (documents : List Document) (r s : Report) → All IsReadable documents → IsExportsReport files documents r → IsExportsReport files documents s → r ≡ s

@@ -31,7 +31,7 @@ abbrev pub extra_reading_of : ExtraReadingValue → ExtraReading
 extra_reading_of x = record { key = x.key.items; meaning = line_meaning_of x.meaning }
 
 abbrev pub locked_reading_of : LockedReadingValue → LockedReading
-locked_reading_of y = record { line = file_line_of y.line; name = y.name.items; extras = map (λ e. e.items) y.extras.items; condition = option_map read_condition_of y.condition; version = y.version; invalid = option_map finding_of y.invalid }
+locked_reading_of y = record { line = file_line_of y.line; name = y.name.items; condition = option_map read_condition_of y.condition; version = y.version; invalid = option_map finding_of y.invalid }
 
 abbrev pub document_of : DocumentValue → Document
 document_of d = record { kind = d.kind; file = file_of d.file }

@@ -3,7 +3,6 @@ use Rattle.std.specs.Prelude.{List, [], ◌∷◌, ℕ, map, codes, if◌then◌
 use Rattle.std.specs.List.{flat_map, list_any, list_all, AllZip, All, suffix_len}
 use Rattle.std.specs.Str.{IsUtf8}
 use Rattle.pep440_pick.specs.Names.{normal}
-use Rattle.pep440_pick.specs.RequirementGrammar.{has_byte}
 use Rattle.pep440_rs.specs.Bounds.{Segments}
 use Rattle.pep440_rs.specs.Lists.ListGrammar.{DerivesList, PieceRejection, RejectsList}
 use Rattle.pep440_rs.specs.LiteralMatching.{matches_literally}
@@ -26,12 +25,10 @@ use Rattle.pyver_findings.specs.Reports.{demands_in}
 use Rattle.pyver_locks.specs.KnownEnvironments.{ReadCondition}
 use Rattle.pyver_locks.specs.LockContents.{LockedPackage, PackageCondition, LockedRequirement, LockedExtra, LockedFile, LockFault, LockParts, LockContents}
 use Rattle.pyver_locks.specs.PackageRequirements.{package_text}
-use Rattle.pyver_projects.specs.ProjectStrings.{Inclusion, Build, Constraint, Dependencies, Entry, Environment, Extra, Group, Include, Invalid, OwnExtras, Python, Section, Unread, Version, inclusions_by, ProjectString, includes, string_number, line_after, line_at}
+use Rattle.pyver_projects.specs.ProjectStrings.{Inclusion, Build, Constraint, Dependencies, Entry, Extra, Group, Include, Invalid, OwnExtras, Python, Section, Unread, Version, inclusions_by, ProjectString, includes, string_number, line_after, line_at}
 use Rattle.pyver_projects.specs.ProjectTables.{extra_names, sources, group_names, has_group_tool, overridden_names, project_names}
 use Rattle.pyver_projects.specs.RequirementStrings.{extras_text, requirement_text}
-use Rattle.pyver_projects.specs.declared.project.EntryTool.{EntryTool}
 use Rattle.pyver_requirements.specs.LineParts.{line_parts}
-use Rattle.pyver_projects.specs.declared.project.EntryTool.TheVariants as of_entries
 use Rattle.pyver_requirements.specs.declared.cause.Cause.TheVariants as cause
 
 -- ---- groups and extras that include others
@@ -44,9 +41,8 @@ inclusion (Extra name) = []
 inclusion (Group name) = []
 inclusion (OwnExtras asker extras) = []
 inclusion (Invalid table reason) = []
-inclusion (Entry tool table name) = []
+inclusion (Entry table name) = []
 inclusion Constraint = []
-inclusion (Environment is_installed table) = []
 inclusion (Unread c) = []
 inclusion Build = []
 inclusion Python = []
@@ -118,14 +114,9 @@ left_out_if_none (Asks a) = Asks a
 left_out_if_none (LeftOut c) = LeftOut c
 left_out_if_none AsksNothing = AsksNothing
 
--- what a line is that stands for an entry of the tool: of Poetry, whose list PEP 440 may not have
-abbrev pub IsEntryMeaning : EntryTool → FileLine → LineMeaning → Type 0
-IsEntryMeaning of_entries.Poetry line x = (m : LineMeaning) × IsPartsMeaning line (line_parts line.text) m × (x ≡ left_out_if_none m)
-IsEntryMeaning of_entries.Pipenv line x = IsPartsMeaning line (line_parts line.text) x
-
--- what a string of an environment of Hatch is, which may have a field to be filled in ("Context formatting")
-abbrev pub IsFilledMeaning : FileLine → List ℕ → LineMeaning → Type 0
-IsFilledMeaning line text x = ((has_byte 123 text ≡ true) × (x ≡ LeftOut cause.OtherSyntax)) ⊎ ((has_byte 123 text ≡ false) × IsPartsMeaning line (line_parts line.text) x)
+-- what a line is that stands for an entry of Poetry, whose list PEP 440 may not have
+abbrev pub IsEntryMeaning : FileLine → LineMeaning → Type 0
+IsEntryMeaning line x = (m : LineMeaning) × IsPartsMeaning line (line_parts line.text) m × (x ≡ left_out_if_none m)
 
 -- what a line is that asks a project with these groups for extras of its own: a requirement, of extras that it has
 abbrev pub IsOwnMeaning : Groups → List (List ℕ) → FileLine → LineMeaning → Type 0
@@ -141,9 +132,8 @@ IsSectionMeaning all (Group name) line text x = IsPartsMeaning line (line_parts 
 IsSectionMeaning all (Include group included) line text x = x ≡ include_meaning all line group included
 IsSectionMeaning all (OwnExtras asker extras) line text x = IsOwnMeaning all extras line x
 IsSectionMeaning all (Invalid table reason) line text x = x ≡ no_group line reason
-IsSectionMeaning all (Entry tool table name) line text x = IsEntryMeaning tool line x
+IsSectionMeaning all (Entry table name) line text x = IsEntryMeaning line x
 IsSectionMeaning all Constraint line text x = IsPartsMeaning line (line_parts line.text) x
-IsSectionMeaning all (Environment is_installed table) line text x = IsFilledMeaning line text x
 IsSectionMeaning all (Unread c) line text x = x ≡ LeftOut c
 IsSectionMeaning all Build line text x = IsPartsMeaning line (line_parts line.text) x
 
@@ -165,9 +155,8 @@ ArePythons (Group name) text p = p ≡ None
 ArePythons (Include group included) text p = p ≡ None
 ArePythons (OwnExtras asker extras) text p = p ≡ None
 ArePythons (Invalid table reason) text p = p ≡ None
-ArePythons (Entry tool table name) text p = p ≡ None
+ArePythons (Entry table name) text p = p ≡ None
 ArePythons Constraint text p = p ≡ None
-ArePythons (Environment is_installed table) text p = p ≡ None
 ArePythons (Unread c) text p = p ≡ None
 ArePythons Build text p = p ≡ None
 
@@ -187,7 +176,6 @@ IsStringReading all file s x = (x.section ≡ s.section) × IsSectionMeaning all
 pub record LockedReading : Type 0 where
   pub line : FileLine
   pub name : List ℕ
-  pub extras : List (List ℕ)
   pub condition : Option ReadCondition
   pub version : Option Record
   pub invalid : Option Finding
@@ -196,11 +184,11 @@ pub record LockedReading : Type 0 where
 abbrev pub package_line : List ℕ → LockedPackage → FileLine
 package_line file p = record { file = file; number = p.line; text = package_text p.name p.version; comment = [] }
 
--- a package on this line with this name, these extras, this condition and this version
-abbrev pub IsVersionReading : FileLine → List ℕ → List (List ℕ) → Option ReadCondition → Option (List ℕ) → LockedReading → Type 0
-IsVersionReading line name es c None y = y ≡ record { line = line; name = normal name; extras = es; condition = c; version = None; invalid = None }
-IsVersionReading line name es c (Some text) y = ((r : Record) × Derives text r × (y ≡ record { line = line; name = normal name; extras = es; condition = c; version = Some r; invalid = None }))
-    ⊎ ((f : Rejection) × Rejects text f × (y ≡ record { line = line; name = normal name; extras = es; condition = c; version = None; invalid = Some (NoRequirement line (rejection_text f) (length name + 1)) }))
+-- a package on this line with this name, this condition and this version
+abbrev pub IsVersionReading : FileLine → List ℕ → Option ReadCondition → Option (List ℕ) → LockedReading → Type 0
+IsVersionReading line name c None y = y ≡ record { line = line; name = normal name; condition = c; version = None; invalid = None }
+IsVersionReading line name c (Some text) y = ((r : Record) × Derives text r × (y ≡ record { line = line; name = normal name; condition = c; version = Some r; invalid = None }))
+    ⊎ ((f : Rejection) × Rejects text f × (y ≡ record { line = line; name = normal name; condition = c; version = None; invalid = Some (NoRequirement line (rejection_text f) (length name + 1)) }))
 
 -- where a package is: everywhere, if PEP 440 does not know the list of Pythons
 abbrev pub IsConditionReading : Option PackageCondition → Option ReadCondition → Type 0
@@ -209,7 +197,7 @@ IsConditionReading (Some p) c = ((list : List Spec) × DerivesList p.python list
     ⊎ ((f : PieceRejection) × RejectsList p.python f × (c ≡ None))
 
 abbrev pub IsLockedReading : List ℕ → LockedPackage → LockedReading → Type 0
-IsLockedReading file p y = IsConditionReading p.condition y.condition × IsVersionReading (package_line file p) p.name p.extras y.condition p.version y
+IsLockedReading file p y = IsConditionReading p.condition y.condition × IsVersionReading (package_line file p) p.name y.condition p.version y
 
 -- ---- requirements of locked packages
 

@@ -1,8 +1,7 @@
 -- Requirements of a project that hold together: its dependencies; those of an extra with the extras that it includes and the dependencies; those of a group
--- with the groups that it includes, and with the dependencies if `together` is true; those of its build; and those of an environment of Hatch, with the
--- dependencies if the project is installed in it. What a project overrides is replaced by the override.
+-- with the groups that it includes, and with the dependencies if `together` is true; and those of its build. What a project overrides is replaced by the
+-- override.
 use Rattle.std.specs.Prelude.{None, Some, ◌&&◌, Bool, true, false, bytes_eq, ℕ, List, not, [], if◌then◌else◌, ◌∷◌, ◌++◌, nat_eq, map, is_some, Option, ◌≡◌}
-use Rattle.std.specs.Bool.{beq}
 use Rattle.std.specs.List.{list_any, filter, flat_map}
 use Rattle.std.specs.Option.{option_or}
 use Rattle.pep440_rs.specs.Bounds.{Segments}
@@ -12,14 +11,14 @@ use Rattle.pyver_findings.specs.FileLines.{FileLine, Conflicting, Finding, NoReq
 use Rattle.pyver_findings.specs.MarkedConflicts.{FindsOfNames, FindsOfEach}
 use Rattle.pyver_findings.specs.Reports.{demands_in}
 use Rattle.pyver_markers.specs.Conditions.{Domain}
-use Rattle.pyver_projects.specs.ProjectStrings.{Build, Constraint, Dependencies, Entry, Environment, Extra, Group, Include, Invalid, OwnExtras, Python, Section, Unread, Version, Inclusion, includes}
+use Rattle.pyver_projects.specs.ProjectStrings.{Build, Constraint, Dependencies, Entry, Extra, Group, Include, Invalid, OwnExtras, Python, Section, Unread, Version, Inclusion, includes}
 use Rattle.pyver_requirements.specs.declared.cause.Cause.{Cause}
 
 -- ---- parts of a project
 
 -- the part to which a string of the section belongs: the name of an included group belongs to the group that includes it, and an included extra to the extra
 -- that does; and to the dependencies what
--- tables of Poetry and Pipenv ask for, since both look for versions for all their groups at once, and what uv is to add to them
+-- tables of Poetry ask for, which looks for versions for all its groups at once, and what uv is to add to them
 abbrev pub section_part : Section → Section
 section_part (Include group included) = Group group
 section_part Dependencies = Dependencies
@@ -28,9 +27,8 @@ section_part (Group name) = Group name
 section_part (OwnExtras None extras) = OwnExtras None extras
 section_part (OwnExtras (Some asker) extras) = Extra asker
 section_part (Invalid table reason) = Invalid table reason
-section_part (Entry tool table name) = Dependencies
+section_part (Entry table name) = Dependencies
 section_part Constraint = Dependencies
-section_part (Environment is_installed table) = Environment is_installed table
 section_part (Unread c) = Unread c
 section_part Build = Build
 section_part Python = Python
@@ -40,7 +38,6 @@ section_part Version = Version
 abbrev pub same_part : Section → Section → Bool
 same_part (Extra a) (Extra b) = bytes_eq a b
 same_part (Group a) (Group b) = bytes_eq a b
-same_part (Environment j a) (Environment k b) = beq j k && bytes_eq a b
 same_part Dependencies Dependencies = true
 same_part Build Build = true
 same_part _ _ = false
@@ -50,7 +47,6 @@ abbrev pub has_dependencies : Bool → Section → Bool
 has_dependencies together Dependencies = true
 has_dependencies together (Extra name) = true
 has_dependencies together (Group name) = together
-has_dependencies together (Environment is_installed table) = is_installed
 has_dependencies together _ = false
 
 -- the part is an extra that is this one or includes it
@@ -66,9 +62,8 @@ has_group is (Extra other) name = false
 has_group is (Include group included) name = false
 has_group is (OwnExtras asker extras) name = false
 has_group is (Invalid table reason) name = false
-has_group is (Entry tool table key) name = false
+has_group is (Entry table key) name = false
 has_group is Constraint name = false
-has_group is (Environment is_installed table) name = false
 has_group is (Unread c) name = false
 has_group is Build name = false
 has_group is Python name = false
@@ -77,11 +72,6 @@ has_group is Version name = false
 abbrev pub is_build : Section → Bool
 is_build Build = true
 is_build _ = false
-
--- the part is this environment
-abbrev pub is_environment : List ℕ → Section → Bool
-is_environment table (Environment is_installed other) = bytes_eq table other
-is_environment table _ = false
 
 -- a string of the section holds in the part, which has these groups and extras
 abbrev pub holds_in : Bool → (has_group has_extra : List ℕ → Bool) → Section → Section → Bool
@@ -92,9 +82,8 @@ holds_in together groups extras part Build = is_build part
 holds_in together groups extras part (Include group included) = false
 holds_in together groups extras part (OwnExtras asker asked) = false
 holds_in together groups extras part (Invalid table reason) = false
-holds_in together groups extras part (Entry tool table name) = has_dependencies together part
+holds_in together groups extras part (Entry table name) = has_dependencies together part
 holds_in together groups extras part Constraint = has_dependencies together part
-holds_in together groups extras part (Environment is_installed table) = is_environment table part
 holds_in together groups extras part (Unread c) = false
 holds_in together groups extras part Python = false
 holds_in together groups extras part Version = false

@@ -1,18 +1,21 @@
-//! The kinds of documents, and which locks count for a project.
-ghost use Rattle.std.specs.Prelude.{◌≡◌, map, ◌==◌, count_by};
+//! The kinds of documents, and to which projects a lock belongs.
+ghost use Rattle.std.specs.Prelude.{◌≡◌, ◌++◌, ◌==◌, IfOk, bytes_eq, count_by, map};
 ghost use Rattle.std.specs.List.{list_any};
-ghost use Rattle.pyver_documents.specs.Comparing.{same_lock_kind, same_kind, is_below, is_nearer, is_project, project_at, is_beside, counts_for};
-ghost use Rattle.pyver_documents.specs.DocumentKinds.{ends_path, lies_above, is_named_pylock, is_document_path, kind_of_path, kind_of_word};
-ghost use Rattle.pyver_documents.specs.DocumentViews.{document_of};
+ghost use Rattle.pyver_documents.specs.Comparing.{belongs};
+ghost use Rattle.pyver_documents.specs.DocumentKinds.{ends_path, is_named_pylock, is_document_path, is_pipenv_path, kind_of_path, kind_of_word};
+ghost use Rattle.pyver_findings.specs.NamedFiles.{folder};
+ghost use Rattle.pyver_locks.specs.LockContents.{parts_of};
 ghost use Rattle.pyver_locks.specs.LockedFiles.{last_section};
 
 use pyver_findings::{SourceFile, folder};
 use pyver_locks::lock_kind::LockKind;
+use pyver_locks::locked_package::LockParts;
+use std::alloc::{AllocError, Global};
 
 /// The kinds of documents.
 #[derive(Clone, Copy, Debug, PartialEq, Eq)]
 pub enum DocumentKind {
-    /// `pyproject.toml`, or a Pipfile.
+    /// `pyproject.toml`.
     Project,
     /// A lock.
     Lock(LockKind),
@@ -25,93 +28,38 @@ pub struct Document {
     pub file: SourceFile,
 }
 
-fn same_lock_kind(one: LockKind, other: LockKind) -> bool
-    ensures { result ≡ same_lock_kind one other }
+// The lock lies in a folder in which one of its members is the project.
+fn has_member(
+    alloc: Global,
+    members: &[Vec<u8>],
+    lock: &[u8],
+    project: &[u8],
+) -> Result<bool, AllocError>
+    ensures { IfOk result (λ b. b ≡ list_any (λ m. bytes_eq (folder lock.now ++ m) (folder project.now)) (map (λ m. m.items) members.now)) }
 {
-    matches!(
-        (one, other),
-        (LockKind::Pylock, LockKind::Pylock)
-            | (LockKind::Uv, LockKind::Uv)
-            | (LockKind::Poetry, LockKind::Poetry)
-            | (LockKind::Pdm, LockKind::Pdm)
-            | (LockKind::Pipfile, LockKind::Pipfile)
-            | (LockKind::Unknown, LockKind::Unknown)
-    )
+    for member in members {
+        let mut place = Vec::from_slice(alloc, folder(lock))?;
+        place.extend_from_slice(member.as_slice())?;
+        if place.as_slice() == folder(project) {
+            return Ok(true);
+        }
+    }
+    Ok(false)
 }
 
-// Both are locks of one kind.
-fn same_kind(one: DocumentKind, other: DocumentKind) -> bool
-    ensures { result ≡ same_kind one other }
+// The lock with these parts belongs to the project.
+pub(crate) fn belongs(
+    alloc: Global,
+    parts: &LockParts,
+    lock: &[u8],
+    project: &[u8],
+) -> Result<bool, AllocError>
+    ensures { IfOk result (λ b. b ≡ belongs (parts_of parts.now) lock.now project.now) }
 {
-    match (one, other) {
-        (DocumentKind::Lock(one), DocumentKind::Lock(other)) => same_lock_kind(one, other),
-        _ => false,
+    if folder(lock) == folder(project) {
+        return Ok(true);
     }
-}
-
-impl Document {
-    fn path(&self) -> &[u8]
-        ensures { result.now ≡ (document_of self.now).file.name }
-    {
-        self.file.name.as_slice()
-    }
-
-    fn is_project(&self) -> bool
-        ensures { result ≡ is_project (document_of self.now).kind }
-    {
-        matches!(self.kind, DocumentKind::Project)
-    }
-
-    // It is a project in the folder of the lock, or in one below.
-    fn is_below(&self, lock: &Document) -> bool
-        ensures { result ≡ is_below (document_of lock.now) (document_of self.now) }
-    {
-        self.is_project() && lies_above(lock.path(), self.path())
-    }
-
-    // It is a lock of the same kind in a folder nearer to the file with this path than that of the other lock.
-    fn is_nearer(&self, path: &[u8], lock: &Document) -> bool
-        ensures { result ≡ is_nearer (project_at path.now) (document_of lock.now) (document_of self.now) }
-    {
-        same_kind(lock.kind, self.kind)
-            && lies_above(self.path(), path)
-            && folder(lock.path()).len() < folder(self.path()).len()
-    }
-}
-
-// Some document is a project in the folder of the lock, or in one below.
-fn has_below(documents: &[Document], lock: &Document) -> bool
-    ensures { result ≡ list_any (λ d. is_below (document_of lock.now) (document_of d)) documents.now }
-{
-    documents.iter().any(|document| document.is_below(lock))
-}
-
-// Some document is a lock of the same kind in a folder nearer to the file with this path.
-fn has_nearer(documents: &[Document], path: &[u8], lock: &Document) -> bool
-    ensures { result ≡ list_any (λ d. is_nearer (project_at path.now) (document_of lock.now) (document_of d)) documents.now }
-{
-    documents
-        .iter()
-        .any(|document| document.is_nearer(path, lock))
-}
-
-// The lock counts for the project, of these documents.
-#[tactic(auto, using(pyver_requirements::proofs::Grouped::any_viewed))]
-pub(crate) fn is_beside(documents: &[Document], project: &Document, lock: &Document) -> bool
-    ensures { result ≡ is_beside (map document_of documents.now) (document_of project.now) (document_of lock.now) }
-{
-    if !has_below(documents, lock) {
-        return true;
-    }
-    lies_above(lock.path(), project.path()) && !has_nearer(documents, project.path(), lock)
-}
-
-// The lock counts for the export with this path, of these documents.
-#[tactic(auto, using(pyver_requirements::proofs::Grouped::any_viewed))]
-pub(crate) fn counts_for(documents: &[Document], path: &[u8], lock: &Document) -> bool
-    ensures { result ≡ counts_for (map document_of documents.now) path.now (document_of lock.now) }
-{
-    lies_above(lock.path(), path) && !has_nearer(documents, path, lock)
+    has_member(alloc, parts.members.as_slice(), lock, project)
 }
 
 // The path is this name, or ends with it after a `/`.
@@ -127,13 +75,6 @@ fn last_section(path: &[u8]) -> &[u8]
     ensures { result.now ≡ last_section path.now }
 {
     &path[folder(path).len()..]
-}
-
-// The first path names a file in the folder of the second, or in one above.
-fn lies_above(path: &[u8], other: &[u8]) -> bool
-    ensures { result ≡ lies_above path.now other.now }
-{
-    other.starts_with(folder(path))
 }
 
 fn count_dots(name: &[u8]) -> usize
@@ -164,16 +105,23 @@ pub fn is_document_path(path: &[u8]) -> bool
         || path.ends_with(b".json")
 }
 
-/// The kind of the document with this path, by its last section: `pyproject.toml`, `Pipfile`, `pylock.toml`, `pylock.NAME.toml` with a
-/// NAME without a dot, `uv.lock`, `poetry.lock`, `pdm.lock` or `Pipfile.lock`. Any other document has none.
+/// Whether the path names a Pipfile or its lock, which are not read: `pipenv verify` checks them.
+///
+/// Allocates nothing.
+pub fn is_pipenv_path(path: &[u8]) -> bool
+    ensures { result ≡ is_pipenv_path path.now }
+{
+    ends_path(path, b"Pipfile", b"/Pipfile") || ends_path(path, b"Pipfile.lock", b"/Pipfile.lock")
+}
+
+/// The kind of the document with this path, by its last section: `pyproject.toml`, `pylock.toml`, `pylock.NAME.toml` with a
+/// NAME without a dot, `uv.lock`, `poetry.lock` or `pdm.lock`. Any other document has none.
 ///
 /// Allocates nothing.
 pub fn kind_of_path(path: &[u8]) -> Option<DocumentKind>
     ensures { result ≡ kind_of_path path.now }
 {
-    if ends_path(path, b"pyproject.toml", b"/pyproject.toml")
-        || ends_path(path, b"Pipfile", b"/Pipfile")
-    {
+    if ends_path(path, b"pyproject.toml", b"/pyproject.toml") {
         Some(DocumentKind::Project)
     } else if ends_path(path, b"pylock.toml", b"/pylock.toml") {
         Some(DocumentKind::Lock(LockKind::Pylock))
@@ -185,14 +133,12 @@ pub fn kind_of_path(path: &[u8]) -> Option<DocumentKind>
         Some(DocumentKind::Lock(LockKind::Poetry))
     } else if ends_path(path, b"pdm.lock", b"/pdm.lock") {
         Some(DocumentKind::Lock(LockKind::Pdm))
-    } else if ends_path(path, b"Pipfile.lock", b"/Pipfile.lock") {
-        Some(DocumentKind::Lock(LockKind::Pipfile))
     } else {
         None
     }
 }
 
-/// The kind of document that this word names: `pyproject`, `pylock`, `uv`, `poetry`, `pdm` or `pipfile`. Any other word names none.
+/// The kind of document that this word names: `pyproject`, `pylock`, `uv`, `poetry` or `pdm`. Any other word names none.
 ///
 /// Allocates nothing.
 pub fn kind_of_word(word: &str) -> Option<DocumentKind>
@@ -204,7 +150,6 @@ pub fn kind_of_word(word: &str) -> Option<DocumentKind>
         "uv" => Some(DocumentKind::Lock(LockKind::Uv)),
         "poetry" => Some(DocumentKind::Lock(LockKind::Poetry)),
         "pdm" => Some(DocumentKind::Lock(LockKind::Pdm)),
-        "pipfile" => Some(DocumentKind::Lock(LockKind::Pipfile)),
         _ => None,
     }
 }

@@ -1,23 +1,20 @@
 //! What strings of a project and documents are to the check.
 ghost use Rattle.std.specs.Prelude.{IfOk, map, ◌≡◌, option_map, string_bytes, IfSome, Some, is_none, false, ◌≤◌, length, take};
 ghost use Rattle.std.specs.List.{AllZip, All};
-ghost use Rattle.pep440_pick.specs.RequirementGrammar.{has_byte};
 ghost use Rattle.pep440_rs.specs.Denoted.{IsDenotable};
 ghost use Rattle.pep440_version.specs.ErrorTexts.{error_text, rejection_text};
 ghost use Rattle.pep440_version.specs.Errors.{error_rejection};
 ghost use Rattle.pep440_version.specs.Rejections.{Rejection};
 ghost use Rattle.toml.specs.View.{table_view};
-ghost use Rattle.pyver_documents.specs.DocumentKinds.{toml_contents, locked};
+ghost use Rattle.pyver_documents.specs.DocumentKinds.{toml_contents};
 ghost use Rattle.pyver_documents.specs.DocumentViews.{document_reading_of, extra_reading_of, document_of, HasGroups, groups_of, string_reading_of};
-ghost use Rattle.pyver_documents.specs.Meanings.{IsProjectReading, IsExtraReading, IsLockReading, IsBrokenReading, IsTextReading, IsContentsReading, IsDocumentReading, list_versions, AreVersions, AreLockedPythons, ArePythons, IsVersionMeaning, no_group, include_meaning, IsEntryMeaning, IsFilledMeaning, if_it_has, IsOwnMeaning, IsSectionMeaning, IsStringReading, string_line, last_bytes, broken_at};
+ghost use Rattle.pyver_documents.specs.Meanings.{IsProjectReading, IsExtraReading, IsLockReading, IsBrokenReading, IsTextReading, IsContentsReading, IsDocumentReading, list_versions, AreVersions, AreLockedPythons, ArePythons, IsVersionMeaning, no_group, include_meaning, IsEntryMeaning, if_it_has, IsOwnMeaning, IsSectionMeaning, IsStringReading, string_line, last_bytes, broken_at};
 ghost use Rattle.pyver_findings.specs.FileLines.{NoRequirement};
 ghost use Rattle.pyver_findings.specs.LineMeanings.{IsNone};
 ghost use Rattle.pyver_findings.specs.Views.{file_line_of, line_meaning_of};
 ghost use Rattle.pyver_locks.specs.LockContents.{locked_extra_of, contents_of};
 ghost use Rattle.pyver_projects.specs.ProjectStrings.{HasPlaces, section_of, project_string_of};
 ghost use Rattle.pyver_documents.specs.declared.document_kind.DocumentKind.TheVariants as of_kind;
-ghost use Rattle.pyver_locks.specs.declared.lock_kind.LockKind.TheVariants as lock_kind;
-ghost use Rattle.pyver_projects.specs.declared.project.EntryTool.TheVariants as of_entries;
 
 use crate::document_kind::{Document, DocumentKind};
 use crate::groups::{Groups, string_inclusions};
@@ -29,17 +26,15 @@ use pep440_sets::{SetError, VersionSet};
 use pyver_findings::{FileLine, Finding, LineMeaning, parse_requirement, parse_specifiers};
 use pyver_locks::lock_kind::LockKind;
 use pyver_locks::locked_package::{LockContents, LockParts, LockedExtra};
-use pyver_locks::pipfile_lock::pipfile_contents;
 use pyver_locks::toml_lock::toml_contents;
 use pyver_projects::inclusions::{group_names, has_group_tool};
 use pyver_projects::own_extras::{extra_names, project_strings};
 use pyver_projects::place::{
-    Places, document_keys, line_after, line_at, read_places, read_quoted_lines, string_number,
+    Places, document_keys, line_after, line_at, read_places, string_number,
 };
-use pyver_projects::project::{EntryTool, ProjectString, Section, project_name};
+use pyver_projects::project::{ProjectString, Section, project_name};
 use pyver_projects::tool_tables::overridden_names;
 use pyver_requirements::Cause;
-use serde_json::Value;
 use std::alloc::{AllocError, Global};
 use toml::Table;
 
@@ -195,32 +190,6 @@ fn reject_toml(
     reject_document(alloc, name, text.as_bytes(), position, error.message())
 }
 
-// The position of the byte in this column of this line, both from 1. No clause is needed: a broken document may be reported at any position.
-fn position_of(text: &[u8], line: usize, column: usize) -> usize {
-    let mut number: usize = 1;
-    for (at, byte) in text.iter().enumerate() {
-        if number == line {
-            return at.saturating_add(column.saturating_sub(1));
-        }
-        if *byte == b'\n' {
-            number = number.saturating_add(1);
-        }
-    }
-    text.len()
-}
-
-fn reject_json(
-    alloc: Global,
-    name: &[u8],
-    text: &str,
-    error: &serde_json::Error,
-) -> Result<DocumentReading, AllocError>
-    ensures broken { IfOk result (λ x. IsBrokenReading (record { name = name.now; text = text.now }) (document_reading_of x)) }
-{
-    let position = position_of(text.as_bytes(), error.line(), error.column());
-    reject_document(alloc, name, text.as_bytes(), position, "not JSON")
-}
-
 fn read_toml_project(alloc: Global, name: &[u8], text: &str) -> Result<DocumentReading, AllocError>
     ensures { IfOk result (λ x. IsTextReading of_kind.Project (record { name = name.now; text = text.now }) (document_reading_of x)) }
 {
@@ -249,20 +218,6 @@ fn read_toml_lock(
         }
         Err(error) if error.is_memory() => Err(AllocError),
         Err(error) => reject_toml(alloc, name, text, &error),
-    }
-}
-
-fn read_pipfile_lock(alloc: Global, name: &[u8], text: &str) -> Result<DocumentReading, AllocError>
-    ensures { IfOk result (λ x. IsContentsReading (record { name = name.now; text = text.now }) (locked lock_kind.Pipfile text.now) (document_reading_of x)) }
-{
-    match Value::from_str(alloc, text) {
-        Ok(document) => {
-            let lines = read_quoted_lines(alloc, text.as_bytes())?;
-            let contents = pipfile_contents(alloc, &lines, &document)?;
-            read_lock(alloc, name, contents)
-        }
-        Err(error) if error.is_memory() => Err(AllocError),
-        Err(error) => reject_json(alloc, name, text, &error),
     }
 }
 
@@ -297,7 +252,6 @@ fn read_lock_text(
             )
         }
         LockKind::Pdm => read_toml_lock(alloc, name, text, LockKind::Pdm, "package", "[[package]]"),
-        LockKind::Pipfile => read_pipfile_lock(alloc, name, text),
         LockKind::Unknown => reject_document(alloc, name, text.as_bytes(), 0, "no known format"),
     }
 }
@@ -388,9 +342,9 @@ fn parse_python(
         Section::Python => parse_versions(alloc, text),
         Section::Version | Section::Dependencies | Section::Build => Ok(None),
         Section::Extra(_) | Section::Group(_) => Ok(None),
-        Section::Include(_, _) | Section::Invalid(_, _) | Section::Entry(_, _, _) => Ok(None),
+        Section::Include(_, _) | Section::Invalid(_, _) | Section::Entry(_, _) => Ok(None),
         Section::OwnExtras(_, _) => Ok(None),
-        Section::Constraint | Section::Environment(_, _) | Section::Unread(_) => Ok(None),
+        Section::Constraint | Section::Unread(_) => Ok(None),
     }
 }
 
@@ -450,45 +404,13 @@ fn include_meaning(
 }
 
 // What a line is that stands for an entry of Poetry, whose list PEP 440 may not have.
-fn parse_poetry_entry(alloc: Global, line: &FileLine) -> Result<LineMeaning, AllocError>
-    ensures { IfOk result (λ x. IsEntryMeaning of_entries.Poetry (file_line_of line.now) (line_meaning_of x)) }
+fn parse_entry(alloc: Global, line: &FileLine) -> Result<LineMeaning, AllocError>
+    ensures { IfOk result (λ x. IsEntryMeaning (file_line_of line.now) (line_meaning_of x)) }
 {
     match parse_requirement(alloc, line)? {
         LineMeaning::IsNone(_) => Ok(LineMeaning::LeftOut(Cause::OtherSyntax)),
         meaning => Ok(meaning),
     }
-}
-
-// What a line is that stands for an entry of the tool.
-fn parse_entry(alloc: Global, tool: EntryTool, line: &FileLine) -> Result<LineMeaning, AllocError>
-    ensures { IfOk result (λ x. IsEntryMeaning tool (file_line_of line.now) (line_meaning_of x)) }
-{
-    match tool {
-        EntryTool::Poetry => parse_poetry_entry(alloc, line),
-        EntryTool::Pipenv => parse_requirement(alloc, line),
-    }
-}
-
-// The text has a field that Hatch fills in.
-fn has_field(text: &str) -> bool
-    ensures { result ≡ has_byte 123 text.now }
-{
-    text.as_bytes().contains(&b'{')
-}
-
-// What a string of an environment of Hatch is, which may have a field to be filled in.
-fn parse_environment_string(
-    alloc: Global,
-    line: &FileLine,
-    text: &str,
-) -> Result<LineMeaning, AllocError>
-    ensures { IfOk result (λ x. IsFilledMeaning (file_line_of line.now) text.now (line_meaning_of x)) }
-{
-    if has_field(text) {
-        return Ok(LineMeaning::LeftOut(Cause::OtherSyntax));
-    }
-    let meaning = parse_requirement(alloc, line)?;
-    Ok(meaning)
 }
 
 // What a line is that asks for extras of the project itself, if it has them or not.
@@ -542,9 +464,8 @@ fn parse_string(
         Section::Build => parse_requirement(alloc, line),
         Section::OwnExtras(_, extras) => parse_own(alloc, groups, line, extras.as_slice()),
         Section::Invalid(_, reason) => no_group(alloc, line, reason),
-        Section::Entry(tool, _, _) => parse_entry(alloc, *tool, line),
+        Section::Entry(_, _) => parse_entry(alloc, line),
         Section::Constraint => parse_requirement(alloc, line),
-        Section::Environment(_, _) => parse_environment_string(alloc, line, text),
         Section::Unread(cause) => Ok(LineMeaning::LeftOut(*cause)),
         Section::Include(group, included) => {
             include_meaning(alloc, groups, line, group.as_slice(), included.as_slice())

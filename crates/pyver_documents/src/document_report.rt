@@ -65,7 +65,6 @@ fn push_package(findings: &mut Vec<Finding>, locked: LockedReading) -> Result<()
     let LockedReading {
         line: _line,
         name: _name,
-        extras: _extras,
         condition: _condition,
         version: _version,
         invalid,
@@ -212,18 +211,17 @@ fn report_all(
     Ok(report)
 }
 
-// What is found in each project beside each lock that counts for it, of these documents.
+// What is found in each project beside each lock that belongs to it.
 fn compare_all(
     alloc: Global,
     projects: &KnownProjects,
-    documents: &[Document],
     read: &[ReadDocument<'_>],
 ) -> Result<Vec<Finding>, AllocError>
-    ensures { IfOk result (λ found. map finding_of found.items ≡ flat_map (beside_all (excuses projects.now) (map document_of documents.now) (map read_pair read.now)) (map read_pair read.now)) }
+    ensures { IfOk result (λ found. map finding_of found.items ≡ flat_map (beside_all (excuses projects.now) (map read_pair read.now)) (map read_pair read.now)) }
 {
     let mut findings = Vec::new(alloc);
     for document in read {
-        push_beside_all(alloc, &mut findings, projects, documents, read, document)?;
+        push_beside_all(alloc, &mut findings, projects, read, document)?;
     }
     Ok(findings)
 }
@@ -301,8 +299,7 @@ pub(crate) fn read_documents<'a>(
 /// for, or the first environment
 /// in which the lock leaves out all packages that it may take, unless that is one of them, setuptools, distribute, pip or wheel, and the locked
 /// versions of its name, if it contains none.
-/// Then what is wrong in each project beside each lock in its folder, or in the nearest above that has one of its kind, and beside each
-/// lock for which that is no project: in one folder whether `metadata.content-hash` of `poetry.lock`, `metadata.content_hash` of `pdm.lock`, or
+/// Then what is wrong in each project beside each lock in its folder, and each `uv.lock` that names it as a member, by the folder in which it lies: in one folder whether `metadata.content-hash` of `poetry.lock`, `metadata.content_hash` of `pdm.lock`, or
 /// `tool.pdm.hashes` of `pylock.toml`, or `_meta.hash.sha256` of `Pipfile.lock`, is the hash of the project, on the line of that key; in one folder, where `uv.lock` has that project as a package and names
 /// no members, the first of CPython 3.0 to 3.20 that only one of both `requires-python` contains, on the line of the lock's; where it says what the project requires, for
 /// each requirement of the project of dependencies, extras and groups whether the lock has one with its name, its extras and its list, and for each of the lock, on the line of
@@ -353,7 +350,7 @@ pub fn find_document_problems(alloc: Global, documents: &[Document]) -> Result<R
 {
     let read = read_documents(alloc, documents)?;
     let projects = KnownProjects::new(alloc, read.as_slice())?;
-    let mut compared = compare_all(alloc, &projects, documents, read.as_slice())?;
+    let mut compared = compare_all(alloc, &projects, read.as_slice())?;
     let (mut conflicts, mut undecided) = (Vec::new(alloc), Vec::new(alloc));
     push_all_conflicts(alloc, &mut conflicts, &mut undecided, read.as_slice())?;
     let mut report = report_all(alloc, &projects, read)?;

@@ -125,7 +125,7 @@ fn is_required(entry: &Demand, strings: &[StringReading]) -> bool
 }
 
 // Adds that the requirement is not there, for this reason.
-pub(crate) fn push_requirement_fault(
+fn push_requirement_fault(
     alloc: Global,
     findings: &mut Vec<Finding>,
     reason: &str,
@@ -385,7 +385,6 @@ fn is_plain_for_uv(document: &Table) -> bool
     text(inside(project, "name")).is_some()
         && !has_dynamic(project)
         && !has_tool("poetry", document)
-        && !has_tool("rye", document)
         && !has_tool("pdm", document)
 }
 

@@ -1,22 +1,17 @@
 //! Extras that requirements ask for, beside a lock.
 ghost use Rattle.std.specs.Prelude.{◌≡◌, IfOk, map, bytes_eq, ◌++◌};
-ghost use Rattle.std.specs.List.{list_any, filter, flat_map};
-ghost use Rattle.pyver_documents.specs.Comparing.{demand_keys, has_keys, same_extras, is_for_extras, is_for_demand, extras_reason, without_extras, lacks_taken, asks_for_extras, demand_asks, asked_in, extra_asks, project_asks, unmet_extra, unmet_extras};
-ghost use Rattle.pyver_documents.specs.DocumentViews.{locked_reading_of, excuses, index_parts, string_reading_of, extra_reading_of, IsIndex, packages_of};
+ghost use Rattle.std.specs.List.{list_any, flat_map};
+ghost use Rattle.pyver_documents.specs.Comparing.{demand_keys, has_keys, same_extras, asks_for_extras, demand_asks, asked_in, extra_asks, project_asks, unmet_extra, unmet_extras};
+ghost use Rattle.pyver_documents.specs.DocumentViews.{excuses, index_parts, string_reading_of, extra_reading_of, IsIndex, packages_of};
 ghost use Rattle.pyver_findings.specs.Views.{demand_of, finding_of};
-ghost use Rattle.pyver_locks.specs.LockContents.{parts_of};
 ghost use Rattle.pyver_projects.specs.ProjectStrings.{section_of, inclusion_of, has_key};
 
 use crate::document_reading::{ExtraReading, StringReading};
-use crate::entries::push_requirement_fault;
-use crate::lack::push_lack_without_marker;
 use crate::lock_comparison::{
     IndexedLock, is_locked, is_needed, is_overridden, push_unmet_meaning,
 };
-use crate::locked_reading::LockedReading;
 use pyver_findings::{Demand, Finding, LineMeaning};
 use pyver_locks::lock_faults::contains_name;
-use pyver_locks::locked_package::LockParts;
 use pyver_locks::package_extras::push_extra_keys;
 use pyver_projects::inclusions::{Inclusion, InclusionIndex, included_groups, push_inclusions_by};
 use pyver_projects::project::Section;
@@ -61,86 +56,6 @@ pub(crate) fn same_extras(extras: &[Vec<u8>], other: &[Vec<u8>]) -> bool
     ensures { result ≡ same_extras (map (λ e. e.items) extras.now) (map (λ e. e.items) other.now) }
 {
     has_keys(other, extras) && has_keys(extras, other)
-}
-
-// ---- a lock that has a package for each set of extras
-
-// A package for the second extras is one for the first, which are asked for.
-fn is_for_extras(parts: &LockParts, extras: &[Vec<u8>], own: &[Vec<u8>]) -> bool
-    ensures { result ≡ is_for_extras (parts_of parts.now) (map (λ e. e.items) extras.now) (map (λ e. e.items) own.now) }
-{
-    !parts.by_extras || same_extras(extras, own)
-}
-
-// The package is for the extras that the requirement asks for.
-#[tactic(auto, unfolding(pyver_findings::specs::Views::names_of))]
-fn is_for_demand(parts: &LockParts, demand: &Demand, locked: &LockedReading) -> bool
-    ensures { result ≡ is_for_demand (parts_of parts.now) (demand_of demand.now) (locked_reading_of locked.now) }
-{
-    is_for_extras(parts, demand.extras.as_slice(), locked.extras.as_slice())
-}
-
-// The packages for the extras that the requirement asks for.
-fn filter_by_extras<'a>(
-    alloc: Global,
-    parts: &LockParts,
-    demand: &Demand,
-    taken: &[&'a LockedReading],
-) -> Result<Vec<&'a LockedReading>, AllocError>
-    ensures { IfOk result (λ needed. map (λ y. locked_reading_of y.now) needed.items ≡ filter (is_for_demand (parts_of parts.now) (demand_of demand.now)) (map (λ y. locked_reading_of y.now) taken.now)) }
-{
-    let mut needed = Vec::new(alloc);
-    for locked in taken {
-        if is_for_demand(parts, demand, *locked) {
-            needed.push(*locked)?;
-        }
-    }
-    Ok(needed)
-}
-
-// Why no package is for these extras.
-fn extras_reason(extras: &[Vec<u8>]) -> &'static str
-    ensures { result.now ≡ extras_reason (map (λ e. e.items) extras.now) }
-{
-    match extras {
-        [] => "the lock has this package only for extras",
-        _ => "the lock does not have this extra of the package",
-    }
-}
-
-// Adds that none of the packages that the requirement may take is for its extras.
-#[tactic(auto, unfolding(pyver_findings::specs::Views::names_of))]
-fn push_without_extras(
-    alloc: Global,
-    findings: &mut Vec<Finding>,
-    demand: &Demand,
-    taken: &[&LockedReading],
-    needed: &[&LockedReading],
-) -> Result<(), AllocError>
-    ensures { IfOk result (λ _. map finding_of findings.new.items ≡ map finding_of findings.old.items ++ without_extras (demand_of demand.now) (map (λ y. locked_reading_of y.now) taken.now) (map (λ y. locked_reading_of y.now) needed.now)) }
-{
-    match (taken, needed) {
-        ([_, ..], []) => {
-            let reason = extras_reason(demand.extras.as_slice());
-            push_requirement_fault(alloc, findings, reason, demand)
-        }
-        _ => Ok(()),
-    }
-}
-
-// Adds that none of the packages that the requirement may take is for its extras, or none of those is there in some environment.
-pub(crate) fn push_lack_of_taken(
-    alloc: Global,
-    findings: &mut Vec<Finding>,
-    parts: &LockParts,
-    demand: &Demand,
-    taken: &[&LockedReading],
-) -> Result<(), AllocError>
-    ensures { IfOk result (λ _. map finding_of findings.new.items ≡ map finding_of findings.old.items ++ lacks_taken (parts_of parts.now) (demand_of demand.now) (map (λ y. locked_reading_of y.now) taken.now)) }
-{
-    let needed = filter_by_extras(alloc, parts, demand, taken)?;
-    push_without_extras(alloc, findings, demand, taken, needed.as_slice())?;
-    push_lack_without_marker(alloc, findings, parts, demand, needed.as_slice())
 }
 
 // ---- a lock that says what packages require for extras

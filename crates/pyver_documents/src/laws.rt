@@ -1,11 +1,10 @@
 //! What holds of reports of documents, as the contract of a function that does nothing.
-ghost use Rattle.pyver_documents.specs.DocumentLaws.{DocumentFindingsHold, NoFindingImpliesContained, NoFindingImpliesSatisfiable, ExportFindingsHold, NoFindingImpliesPinned, DocumentReportsOnce, ExportReportsOnce};
+ghost use Rattle.pyver_documents.specs.DocumentLaws.{DocumentFindingsHold, NoFindingImpliesContained, NoFindingImpliesSatisfiable, DocumentReportsOnce};
 
 /// What is reported by itself is a string of a project that is not what it is to be there, a group that is invalid, a package whose version
 /// is none or is not that in the name of one of its files, a package whose name and marker another has, too, or a dependency on two, if the
-/// format has one, a document that is not TOML, or JSON, in UTF-8, or a requirement whose name no package of some lock has, or which in some
-/// environment no package meets that the lock does not leave out, or a lock that has another hash than what is hashed of the project in its folder,
-/// or a requirement of a project that the lock in its folder does not have, or one that this has for the project, which does not have it.
+/// format has one, a document that is not TOML in UTF-8, or a requirement whose name no package of some lock has, or which in some
+/// environment no package meets that the lock does not leave out, or a lock that is for other Pythons than the project in its folder, or a requirement of a project that the lock in its folder does not have, or one that this has for the project, which does not have it.
 /// Lines that are
 /// reported together belong to a requirement, of a project or of a package in the same lock, and to packages of its name, none of whose
 /// versions it contains, or to requirements of a project that hold together, have no version in common, and have one without any one of them.
@@ -15,14 +14,12 @@ pub fn findings_hold()
     ensures { DocumentFindingsHold }
 {}
 
-/// Where nothing is reported, each requirement of a project without a marker (but in a Pipfile) and a URL, but of its build, contains a version of its
+/// Where nothing is reported, each requirement of a project without a marker and a URL, but of its build, contains a version of its
 /// name in each lock that counts for it, does not leave its part out, and has one, unless the project overrides the name. Each requirement of a locked package that is read
 /// and is in PEP 440's syntax contains a version of its name in the same lock, if there is one and no project overrides it; and in each environment that is known some package meets it that the lock does not
-/// leave out, if there is a project, none has this name, and it is none of setuptools, distribute, pip and wheel; in `pdm.lock` one for the extras that it
-/// asks for. So does each requirement that a package has for an extra for which the project asks, itself or through others, if no project overrides anything.
+/// leave out, if there is a project, none has this name, and it is none of setuptools, distribute, pip and wheel.
 /// Each file of a locked package from an index, in whose name a version is read, has one that `==` with the package's version matches.
 /// No package has the name, the extras and the marker of another, if the format has markers, and no dependency of `uv.lock` is on two.
-/// Each lock with a hash has the one of what is hashed of the project in its folder, unless this is not known.
 /// Where `uv.lock` names requirements of the project in its folder, each requirement of the project is among them, by name and list, and each of them is one of the project,
 /// unless it has a source of its own, the project has no name, or its dependencies or extras are dynamic or in tables of other tools.
 ///
@@ -36,20 +33,9 @@ pub fn no_finding_means_agreement()
     ensures satisfiable { NoFindingImpliesSatisfiable }
 {}
 
-/// What is found of an export is a line that pins a name which no package of the lock has that `uv export` made it of; or it is reported with the lines of
-/// the packages of its name in a lock that counts for it, and contains the version of none. Where nothing is found, each line that pins a name contains one of
-/// them, in each lock that counts and has some.
-///
-/// Allocates nothing.
-pub fn exports_are_compared()
-    ensures found { ExportFindingsHold }
-    ensures pinned { NoFindingImpliesPinned }
-{}
-
-/// Documents that are TOML, or JSON, in UTF-8 have at most one report in which nothing is undecided, and exports beside them one.
+/// Documents that are TOML in UTF-8 have at most one report in which nothing is undecided.
 ///
 /// Allocates nothing.
 pub fn reports_once()
-    ensures documents { DocumentReportsOnce }
-    ensures exports { ExportReportsOnce }
+    ensures { DocumentReportsOnce }
 {}

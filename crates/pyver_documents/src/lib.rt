@@ -1,15 +1,14 @@
-//! What is wrong in the documents of a project: `pyproject.toml`, a Pipfile and locks, each by itself and one beside the other.
+//! What is wrong in the documents of a project: `pyproject.toml` and locks, each by itself and one beside the other.
 //!
 //! In reading order: `document_kind`; `document_reading`, `locked_reading` and `groups`; `together`, a project by itself; `known_projects`,
-//! `lock_comparison`, `extra_comparison`, `lack`, `stale_lock` and `entries`, a project beside a lock; `document_report` and
-//! `export_comparison`, the two calls; and `laws`.
+//! `lock_comparison`, `extra_comparison`, `lack`, `stale_lock` and `entries`, a project beside a lock; `document_report`, the
+//! call; and `laws`.
 #![tactic(auto)]
 
 mod document_kind;
 mod document_reading;
 mod document_report;
 mod entries;
-mod export_comparison;
 mod extra_comparison;
 mod groups;
 mod known_projects;
@@ -20,7 +19,8 @@ mod locked_reading;
 mod stale_lock;
 mod together;
 
-pub use document_kind::{Document, DocumentKind, is_document_path, kind_of_path, kind_of_word};
+pub use document_kind::{
+    Document, DocumentKind, is_document_path, is_pipenv_path, kind_of_path, kind_of_word,
+};
 pub use document_report::find_document_problems;
-pub use export_comparison::find_export_problems;
 pub use pyver_locks::lock_kind::LockKind;

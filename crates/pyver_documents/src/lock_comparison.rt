@@ -3,19 +3,20 @@ ghost use Rattle.std.specs.Prelude.{◌≡◌, [], ◌++◌, IfOk, if◌then◌e
 ghost use Rattle.std.specs.HashMap.{get_by};
 ghost use Rattle.std.specs.List.{filter, list_any, flat_map};
 ghost use Rattle.std.specs.Option.{option_map_or};
-ghost use Rattle.pyver_documents.specs.Comparing.{locks_groups, locks_extras, names_groups, locks_entries, is_of_other_tool, is_needed, leaves_out, is_locked, is_overridden, outside, accepts_version, locked_line, excluded, has_name, absent, may_take, lacks_taken, taken_packages, unlocked, lacking, unmet_demand, unmet, missing, excluded_in, is_of_pipenv, compared_demand, compared, unmet_extras, found_beside, found_in_pair, beside_all};
-ghost use Rattle.pyver_documents.specs.DocumentViews.{locked_reading_of, IsIndex, index_parts, packages_of, excuses, string_reading_of, extra_reading_of, document_reading_of, document_of, read_pair};
+ghost use Rattle.pyver_documents.specs.Comparing.{locks_groups, locks_extras, names_groups, locks_entries, is_of_other_tool, is_needed, leaves_out, is_locked, is_overridden, outside, accepts_version, locked_line, excluded, has_name, absent, may_take, lack_without_marker, taken_packages, unlocked, lacking, unmet_demand, unmet, missing, excluded_in, compared_demand, compared, unmet_extras, found_beside, is_beside, found_in_pair, beside_all};
+ghost use Rattle.pyver_documents.specs.DocumentViews.{locked_reading_of, IsIndex, index_parts, packages_of, excuses, string_reading_of, extra_reading_of, document_reading_of, read_pair};
 ghost use Rattle.pyver_findings.specs.Reports.{demands_in};
 ghost use Rattle.pyver_findings.specs.Views.{file_line_of, finding_of, demand_of, line_meaning_of};
 ghost use Rattle.pyver_locks.specs.LockContents.{parts_of};
 ghost use Rattle.pyver_projects.specs.ProjectStrings.{section_of};
 
-use crate::document_kind::{Document, DocumentKind, is_beside};
+use crate::document_kind::{DocumentKind, belongs};
 use crate::document_reading::{
     DocumentReading, ExtraReading, LockReading, ProjectReading, ReadDocument, StringReading,
 };
-use crate::extra_comparison::{push_lack_of_taken, push_unmet_extras};
+use crate::extra_comparison::push_unmet_extras;
 use crate::known_projects::{KnownProjects, is_installer};
+use crate::lack::push_lack_without_marker;
 use crate::locked_reading::LockedReading;
 use crate::stale_lock::{in_one_folder, push_stale_in_pair};
 use crate::together::is_standard;
@@ -24,7 +25,7 @@ use pyver_findings::{Conflict, Demand, FileLine, Finding, LineMeaning};
 use pyver_locks::lock_faults::contains_name;
 use pyver_locks::lock_kind::LockKind;
 use pyver_locks::locked_package::LockParts;
-use pyver_projects::project::{EntryTool, Section, is_project_name};
+use pyver_projects::project::{Section, is_project_name};
 use std::alloc::{AllocError, Global};
 use std::collections::HashMap;
 
@@ -128,14 +129,11 @@ fn names_groups(kind: LockKind, parts: &[Vec<u8>]) -> bool
     }
 }
 
-// The lock has what all such tables of the tool ask for.
-fn locks_entries(tool: EntryTool, kind: LockKind) -> bool
-    ensures { result ≡ locks_entries tool kind }
+// The lock has what all tables of Poetry ask for.
+fn locks_entries(kind: LockKind) -> bool
+    ensures { result ≡ locks_entries kind }
 {
-    match tool {
-        EntryTool::Poetry => matches!(kind, LockKind::Poetry),
-        EntryTool::Pipenv => matches!(kind, LockKind::Pipfile),
-    }
+    matches!(kind, LockKind::Poetry)
 }
 
 // The section is of a table of another tool than that of the lock.
@@ -143,7 +141,7 @@ fn is_of_other_tool(kind: LockKind, section: &Section) -> bool
     ensures { result ≡ is_of_other_tool kind (section_of section.now) }
 {
     match section {
-        Section::Entry(tool, _, _) => !locks_entries(*tool, kind),
+        Section::Entry(_, _) => !locks_entries(kind),
         Section::Constraint => !locks_groups(kind),
         _ => false,
     }
@@ -158,7 +156,7 @@ pub(crate) fn is_needed(kind: LockKind, parts: &[Vec<u8>], section: &Section) ->
         Section::Dependencies => !names_groups(kind, parts) || contains_name(parts, b"default"),
         Section::Extra(name) => locks_extras(kind) || contains_name(parts, name.as_slice()),
         Section::Group(name) => locks_groups(kind) || contains_name(parts, name.as_slice()),
-        Section::Entry(tool, _, _) => locks_entries(*tool, kind),
+        Section::Entry(_, _) => locks_entries(kind),
         _ => false,
     }
 }
@@ -177,8 +175,8 @@ pub(crate) fn is_locked(near: bool, section: &Section) -> bool
 {
     match section {
         Section::Dependencies | Section::Extra(_) | Section::Group(_) => true,
-        Section::Entry(EntryTool::Poetry, _, _) => true,
-        Section::Entry(EntryTool::Pipenv, _, _) | Section::Constraint => near,
+        Section::Entry(_, _) => true,
+        Section::Constraint => near,
         _ => false,
     }
 }
@@ -277,7 +275,7 @@ fn push_excluded(
 }
 
 // Adds the requirement beside the packages of its name, if its list contains the version of none.
-pub(crate) fn push_all_excluded(
+fn push_all_excluded(
     alloc: Global,
     findings: &mut Vec<Finding>,
     demand: &Demand,
@@ -304,7 +302,7 @@ fn has_package(demand: &Demand, packages: &PackageIndex<'_>) -> bool
 }
 
 // Adds that no package has the name of the requirement, if none has.
-pub(crate) fn push_absent(
+fn push_absent(
     alloc: Global,
     findings: &mut Vec<Finding>,
     packages: &PackageIndex<'_>,
@@ -355,10 +353,10 @@ fn push_lack_of_group(
     demand: &Demand,
     group: &[&LockedReading],
 ) -> Result<(), AllocError>
-    ensures { IfOk result (λ _. map finding_of findings.new.items ≡ map finding_of findings.old.items ++ lacks_taken (parts_of parts.now) (demand_of demand.now) (filter (may_take (demand_of demand.now).specifiers) (map (λ y. locked_reading_of y.now) group.now))) }
+    ensures { IfOk result (λ _. map finding_of findings.new.items ≡ map finding_of findings.old.items ++ lack_without_marker (parts_of parts.now) (demand_of demand.now) (filter (may_take (demand_of demand.now).specifiers) (map (λ y. locked_reading_of y.now) group.now))) }
 {
     let taken = filter_taken(alloc, demand, group)?;
-    push_lack_of_taken(alloc, findings, parts, demand, taken.as_slice())
+    push_lack_without_marker(alloc, findings, parts, demand, taken.as_slice())
 }
 
 fn push_lack_of_name(
@@ -368,7 +366,7 @@ fn push_lack_of_name(
     demand: &Demand,
 ) -> Result<(), AllocError>
     requires { IsIndex packages.now }
-    ensures { IfOk result (λ _. map finding_of findings.new.items ≡ map finding_of findings.old.items ++ lacks_taken (index_parts packages.now) (demand_of demand.now) (taken_packages (packages_of packages.now) (demand_of demand.now))) }
+    ensures { IfOk result (λ _. map finding_of findings.new.items ≡ map finding_of findings.old.items ++ lack_without_marker (index_parts packages.now) (demand_of demand.now) (taken_packages (packages_of packages.now) (demand_of demand.now))) }
 {
     match packages.of_name(demand.name.as_slice()) {
         Some(group) => {
@@ -378,8 +376,7 @@ fn push_lack_of_name(
     }
 }
 
-// Adds that the lock has no package of the name of the requirement, or none for its extras; or, if that has no marker, in some environment none that it may
-// take.
+// Adds that the lock has no package of the name of the requirement; or, if that has no marker, in some environment none that it may take.
 fn push_absence_or_lack(
     alloc: Global,
     findings: &mut Vec<Finding>,
@@ -517,13 +514,6 @@ fn push_excluded_in(
     push_all_excluded(alloc, findings, demand, &lock.packages)
 }
 
-// The section is of a table of Pipenv, which locks what is asked for under a marker, too.
-fn is_of_pipenv(section: &Section) -> bool
-    ensures { result ≡ is_of_pipenv (section_of section.now) }
-{
-    matches!(section, Section::Entry(EntryTool::Pipenv, _, _))
-}
-
 fn push_compared_demand(
     alloc: Global,
     findings: &mut Vec<Finding>,
@@ -534,7 +524,7 @@ fn push_compared_demand(
     requires { IsIndex lock.now.packages }
     ensures { IfOk result (λ _. map finding_of findings.new.items ≡ map finding_of findings.old.items ++ compared_demand lock.now.kind (index_parts lock.now.packages) (option_to_list (option_map (λ n. n.items) lock.now.project.now)) (excuses lock.now.projects.now) lock.now.near (packages_of lock.now.packages) (section_of section.now) (demand_of demand.now)) }
 {
-    if demand.marker.is_some() && !is_of_pipenv(section) {
+    if demand.marker.is_some() {
         return Ok(());
     }
     if is_overridden(lock.projects, section, demand.name.as_slice()) {
@@ -658,18 +648,28 @@ fn push_beside<'a>(
     push_beside_lock(alloc, findings, projects, near, kind, project, lock)
 }
 
-// What is found in the first document beside the second, if this counts for it, of these documents.
+// The document that was read is a lock that belongs to the project with this name.
+fn is_beside(alloc: Global, project: &[u8], other: &ReadDocument<'_>) -> Result<bool, AllocError>
+    ensures { IfOk result (λ b. b ≡ is_beside project.now (read_pair other.now).0.file.name (read_pair other.now).1) }
+{
+    let name = other.document.file.name.as_slice();
+    match &other.reading {
+        DocumentReading::Lock(lock) => belongs(alloc, &lock.parts, name, project),
+        DocumentReading::Project(_) | DocumentReading::Broken(_) => Ok(false),
+    }
+}
+
+// What is found in the first document beside the second, if this is a lock that belongs to it.
 fn push_pair_of_documents(
     alloc: Global,
     findings: &mut Vec<Finding>,
     projects: &KnownProjects,
-    documents: &[Document],
     read: &ReadDocument<'_>,
     other: &ReadDocument<'_>,
 ) -> Result<(), AllocError>
-    ensures { IfOk result (λ _. map finding_of findings.new.items ≡ map finding_of findings.old.items ++ found_in_pair (excuses projects.now) (map document_of documents.now) (read_pair read.now) (read_pair other.now)) }
+    ensures { IfOk result (λ _. map finding_of findings.new.items ≡ map finding_of findings.old.items ++ found_in_pair (excuses projects.now) (read_pair read.now) (read_pair other.now)) }
 {
-    if !is_beside(documents, read.document, other.document) {
+    if !is_beside(alloc, read.document.file.name.as_slice(), other)? {
         return Ok(());
     }
     push_stale_in_pair(alloc, findings, read, other)?;
@@ -689,14 +689,13 @@ pub(crate) fn push_beside_all(
     alloc: Global,
     findings: &mut Vec<Finding>,
     projects: &KnownProjects,
-    documents: &[Document],
     others: &[ReadDocument<'_>],
     read: &ReadDocument<'_>,
 ) -> Result<(), AllocError>
-    ensures { IfOk result (λ _. map finding_of findings.new.items ≡ map finding_of findings.old.items ++ beside_all (excuses projects.now) (map document_of documents.now) (map read_pair others.now) (read_pair read.now)) }
+    ensures { IfOk result (λ _. map finding_of findings.new.items ≡ map finding_of findings.old.items ++ beside_all (excuses projects.now) (map read_pair others.now) (read_pair read.now)) }
 {
     for other in others {
-        push_pair_of_documents(alloc, findings, projects, documents, read, other)?;
+        push_pair_of_documents(alloc, findings, projects, read, other)?;
     }
     Ok(())
 }

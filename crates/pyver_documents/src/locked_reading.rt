@@ -24,7 +24,6 @@ use pyver_locks::known_environment::ReadCondition;
 use pyver_locks::locked_package::{
     LockFault, LockedFile, LockedPackage, LockedRequirement, PackageCondition, package_text,
 };
-use pyver_projects::project::copy_names;
 use pyver_projects::requirement_strings::{name_with_extras, requirement_text};
 use pyver_requirements::Cause;
 use std::alloc::{AllocError, Global};
@@ -41,8 +40,6 @@ pub(crate) struct LockedReading {
     pub(crate) line: FileLine,
     // In its normal form.
     pub(crate) name: Vec<u8>,
-    // Those that it is for, in their normal forms.
-    pub(crate) extras: Vec<Vec<u8>>,
     // Where it is, if not everywhere.
     pub(crate) condition: Option<ReadCondition>,
     // The version, if it has one that is valid.
@@ -78,13 +75,12 @@ fn reject(
     condition: Option<ReadCondition>,
     reason: String,
 ) -> Result<LockedReading, AllocError>
-    ensures { IfOk result (λ y. locked_reading_of y ≡ record { line = file_line_of line; name = normal (locked_of locked.now).name; extras = (locked_of locked.now).extras; condition = option_map read_condition_of condition; version = None; invalid = Some (NoRequirement (file_line_of line) (string_bytes reason) (length (locked_of locked.now).name + 1)) }) }
+    ensures { IfOk result (λ y. locked_reading_of y ≡ record { line = file_line_of line; name = normal (locked_of locked.now).name; condition = option_map read_condition_of condition; version = None; invalid = Some (NoRequirement (file_line_of line) (string_bytes reason) (length (locked_of locked.now).name + 1)) }) }
 {
     let column = locked.name.len() + 1;
     Ok(LockedReading {
         line: line.clone()?,
         name: normalize_name(alloc, locked.name.as_str())?,
-        extras: copy_names(&locked.extras)?,
         condition,
         version: None,
         invalid: Some(Finding::NoRequirement(line, reason, column)),
@@ -99,7 +95,7 @@ fn reject_version(
     error: &VersionParseError,
 ) -> Result<LockedReading, AllocError>
     requires { IfSome (error_rejection error.now) (λ f. error_text (error_rejection error.now) ≡ Some (rejection_text f)) }
-    ensures { IfOk result (λ y. (f : Rejection) × (error_rejection error.now ≡ Some f) × (locked_reading_of y ≡ record { line = file_line_of line; name = normal (locked_of locked.now).name; extras = (locked_of locked.now).extras; condition = option_map read_condition_of condition; version = None; invalid = Some (NoRequirement (file_line_of line) (rejection_text f) (length (locked_of locked.now).name + 1)) })) }
+    ensures { IfOk result (λ y. (f : Rejection) × (error_rejection error.now ≡ Some f) × (locked_reading_of y ≡ record { line = file_line_of line; name = normal (locked_of locked.now).name; condition = option_map read_condition_of condition; version = None; invalid = Some (NoRequirement (file_line_of line) (rejection_text f) (length (locked_of locked.now).name + 1)) })) }
 {
     let reason = version_reason(alloc, error)?;
     reject(alloc, line, locked, condition, reason)
@@ -112,13 +108,12 @@ fn read_version(
     condition: Option<ReadCondition>,
     version: &str,
 ) -> Result<LockedReading, AllocError>
-    ensures { IfOk result (λ y. IsVersionReading (file_line_of line) (locked_of locked.now).name (locked_of locked.now).extras (option_map read_condition_of condition) (Some version.now) (locked_reading_of y)) }
+    ensures { IfOk result (λ y. IsVersionReading (file_line_of line) (locked_of locked.now).name (option_map read_condition_of condition) (Some version.now) (locked_reading_of y)) }
 {
     match Version::from_str(alloc, version) {
         Ok(version) => Ok(LockedReading {
             line,
             name: normalize_name(alloc, locked.name.as_str())?,
-            extras: copy_names(&locked.extras)?,
             condition,
             version: Some(version),
             invalid: None,
@@ -171,14 +166,13 @@ fn read_package_version(
     locked: &LockedPackage,
     condition: Option<ReadCondition>,
 ) -> Result<LockedReading, AllocError>
-    ensures { IfOk result (λ y. IsVersionReading (file_line_of line) (locked_of locked.now).name (locked_of locked.now).extras (option_map read_condition_of condition) (locked_of locked.now).version (locked_reading_of y)) }
+    ensures { IfOk result (λ y. IsVersionReading (file_line_of line) (locked_of locked.now).name (option_map read_condition_of condition) (locked_of locked.now).version (locked_reading_of y)) }
 {
     match &locked.version {
         Some(version) => read_version(alloc, line, locked, condition, version.as_str()),
         None => Ok(LockedReading {
             line,
             name: normalize_name(alloc, locked.name.as_str())?,
-            extras: copy_names(&locked.extras)?,
             condition,
             version: None,
             invalid: None,

@@ -3,7 +3,7 @@ ghost use Rattle.std.specs.Prelude.{◌≡◌, IfOk, map, List, ℕ, ◌++◌, [
 ghost use Rattle.std.specs.List.{list_any, flat_map, All};
 ghost use Rattle.pyver_documents.specs.DocumentViews.{string_reading_of};
 ghost use Rattle.pyver_documents.specs.Meanings.{extra_inclusions as extra_inclusions_in, inclusions as inclusions_in, IsSoundString};
-ghost use Rattle.pyver_documents.specs.Together.{section_part, same_part, parts, has_dependencies, is_build, is_environment, has_group, has_extra, holds_in, is_standard, is_replaced, unreplaced, demand_in_part, part_demands, same_line, same_lines, same_finding, with_new, project_python, project_domain, FindsOfPart, sections, all_demands, is_marked, FindsOfParts};
+ghost use Rattle.pyver_documents.specs.Together.{section_part, same_part, parts, has_dependencies, is_build, has_group, has_extra, holds_in, is_standard, is_replaced, unreplaced, demand_in_part, part_demands, same_line, same_lines, same_finding, with_new, project_python, project_domain, FindsOfPart, sections, all_demands, is_marked, FindsOfParts};
 ghost use Rattle.pyver_findings.specs.MarkedConflicts.{FindsOfEach};
 ghost use Rattle.pyver_findings.specs.Reports.{demands_in};
 ghost use Rattle.pyver_findings.specs.Views.{demand_of, line_meaning_of, file_line_of, finding_of, AddsFound};
@@ -40,7 +40,7 @@ fn section_part(section: &Section) -> Result<Section, AllocError>
     match section {
         Section::Include(group, _) => Ok(Section::Group(group.clone()?)),
         Section::OwnExtras(Some(asker), _) => Ok(Section::Extra(asker.clone()?)),
-        Section::Entry(_, _, _) | Section::Constraint => Ok(Section::Dependencies),
+        Section::Entry(_, _) | Section::Constraint => Ok(Section::Dependencies),
         other => other.clone(),
     }
 }
@@ -51,9 +51,6 @@ fn same_part(one: &Section, other: &Section) -> bool
     match (one, other) {
         (Section::Extra(one), Section::Extra(other)) => one.as_slice() == other.as_slice(),
         (Section::Group(one), Section::Group(other)) => one.as_slice() == other.as_slice(),
-        (Section::Environment(installed, one), Section::Environment(other_installed, other)) => {
-            installed == other_installed && one.as_slice() == other.as_slice()
-        }
         (Section::Dependencies, Section::Dependencies) => true,
         (Section::Build, Section::Build) => true,
         _ => false,
@@ -93,7 +90,6 @@ fn has_dependencies(together: bool, part: &Section) -> bool
     match part {
         Section::Dependencies | Section::Extra(_) => true,
         Section::Group(_) => together,
-        Section::Environment(is_installed, _) => *is_installed,
         _ => false,
     }
 }
@@ -102,15 +98,6 @@ fn is_build(part: &Section) -> bool
     ensures { result ≡ is_build (section_of part.now) }
 {
     matches!(part, Section::Build)
-}
-
-fn is_environment(table: &[u8], part: &Section) -> bool
-    ensures { result ≡ is_environment table.now (section_of part.now) }
-{
-    match part {
-        Section::Environment(_, other) => table == other.as_slice(),
-        _ => false,
-    }
 }
 
 // The names of the groups in the part.
@@ -157,11 +144,10 @@ fn holds_in(together: bool, names: &PartNames<'_>, section: &Section) -> bool
 {
     match section {
         Section::Dependencies => has_dependencies(together, names.part),
-        Section::Entry(_, _, _) | Section::Constraint => has_dependencies(together, names.part),
+        Section::Entry(_, _) | Section::Constraint => has_dependencies(together, names.part),
         Section::Extra(name) => names.extras.contains_key(name.as_slice()),
         Section::Group(name) => names.groups.contains_key(name.as_slice()),
         Section::Build => is_build(names.part),
-        Section::Environment(_, table) => is_environment(table.as_slice(), names.part),
         Section::Include(_, _) | Section::OwnExtras(_, _) => false,
         Section::Invalid(..) | Section::Unread(_) => false,
         Section::Python | Section::Version => false,

@@ -6,7 +6,6 @@ pub mod Conflicts
 pub mod MarkedConflicts
 pub mod Hashes
 pub mod Reports
-pub mod Exports
 pub mod Views
 pub mod ReportTexts
 pub mod SarifLogs

@@ -5,7 +5,6 @@ mod column;
 mod conflicts;
 mod constraints;
 mod demand;
-mod exports;
 mod file_line;
 mod finding;
 mod group;
@@ -30,7 +29,6 @@ mod smallest;
 
 pub use conflicts::push_conflicts;
 pub use demand::Demand;
-pub use exports::{is_export, is_of_uv_lock, parse_demands};
 pub use file_line::{FileLine, SourceFile};
 pub use finding::{Conflict, Finding, FindingKind};
 pub use json_string::push_json_string;

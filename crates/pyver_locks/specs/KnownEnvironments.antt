@@ -1,6 +1,6 @@
 -- Environments in which installers of today run, CPython 3.9 to 3.14 on three systems, with all that a lock has installed (PEP 751, "Installation"); and
 -- those in which a lock leaves a package out by its marker (PEP 508, "Environment Markers").
-use Rattle.std.specs.Prelude.{ℕ, List, codes, ◌++◌, [], ◌∷◌, Some, bytes_eq, if◌then◌else◌, Bool, Option, None, Result, Ok, Err, ◌&&◌, ◌||◌, ◌==◌, false, length, unwrap_or}
+use Rattle.std.specs.Prelude.{ℕ, List, codes, ◌++◌, [], ◌∷◌, Some, bytes_eq, if◌then◌else◌, Bool, Option, None, Result, Ok, Err, ◌&&◌, ◌||◌, ◌==◌, false, true, length, unwrap_or}
 use Rattle.std.specs.Fmt.{decimal}
 use Rattle.std.specs.List.{list_all, list_any}
 use Rattle.pep440_rs.specs.LiteralMatching.{list_matches_literally}
@@ -13,7 +13,6 @@ use Rattle.pyver_locks.specs.declared.known_environment.System.TheVariants.{Linu
 use Rattle.pyver_markers.specs.Environments.{Assignment, Environment, Names, assigned}
 use Rattle.pyver_markers.specs.MarkerComparisons.{compare}
 use Rattle.pyver_markers.specs.MarkerValues.{after_steps, both_hold, either_holds, last_value}
-use Rattle.pyver_projects.specs.ProjectTables.{is_false}
 use Rattle.pyver_requirements.specs.MarkerSteps.{Misfit, Step, marker_steps}
 use Rattle.pyver_locks.specs.declared.known_environment.ReadCondition.{ReadCondition as ReadConditionValue}
 
@@ -101,6 +100,12 @@ read_value e (Err f) = None
 -- CPython 3 with this second number
 abbrev pub python_record : ℕ → Record
 python_record minor = from_release (3 ∷ (minor ∷ (0 ∷ [])))
+
+-- the value is known, and it is false
+abbrev pub is_false : Option Bool → Bool
+is_false (Some false) = true
+is_false (Some true) = false
+is_false None = false
 
 module _ (parts : LockParts) where
   -- what the marker is in the environment

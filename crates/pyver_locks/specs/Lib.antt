@@ -2,5 +2,4 @@ pub mod LockContents
 pub mod KnownEnvironments
 pub mod PackageRequirements
 pub mod LockedFiles
-pub mod ContentHashes
 pub mod Locks

@@ -1,21 +1,17 @@
 -- Locked packages beside their files and beside one another: the versions in the names of files, of wheels (PEP 427, "File name convention") and of
 -- archives of sources (PEP 625, "Specification"); and packages of one name. By PEP 751 ("Specification") at most one of these is installed, so
--- that their markers differ, as in Poetry's and PDM's locks; uv names a package by its source, too, if another one has its name. And the packages of
--- `Pipfile.lock`, which is JSON, and its values of other types.
+-- that their markers differ, as in Poetry's and PDM's locks; uv names a package by its source, too, if another one has its name.
 use Rattle.std.specs.Prelude.{ℕ, List, Bool, ◌==◌, [], ◌∷◌, if◌then◌else◌, Option, codes, option_map, ◌-◌, Some, None, length, nat_eq, take, option_and_then, unwrap_or, ◌++◌, bytes_eq, option_to_list, ◌||◌, true, false, is_some, ◌&&◌, not, count_by, nat_lt, get_or}
 use Rattle.std.specs.List.{list_any, ends_with, flat_map}
 use Rattle.std.specs.Option.{option_or, option_map_or}
 use Rattle.pep440_pick.specs.Names.{same_name, normal}
 use Rattle.pep440_pick.specs.RequirementReading.{split_at_byte}
-use Rattle.pep440_version.specs.Changes.ChangeWords.{after}
-use Rattle.serde_json.specs.Data.{Data as JsonData, Members as JsonMembers, member, no_members}
-use Rattle.serde_json.specs.Find.{as_object, get as json_get, as_str}
 use Rattle.toml.specs.Data.{Data, get, Members, get_member}
-use Rattle.pyver_locks.specs.LockContents.{LockedFile, LockFault, PackageCondition, LockedPackage}
+use Rattle.pyver_locks.specs.LockContents.{LockedFile, LockFault, PackageCondition}
 use Rattle.pyver_locks.specs.PackageRequirements.{package_text}
 use Rattle.pyver_locks.specs.declared.lock_kind.LockKind.{LockKind}
-use Rattle.pyver_locks.specs.declared.lock_kind.LockKind.TheVariants.{Pdm, Pipfile, Poetry, Pylock, Unknown, Uv}
-use Rattle.pyver_projects.specs.ProjectStrings.{text_in, listed, inside, is_text_or_none, is_table_or_none, header_lines, is_array_or_none, first_line, number_or_one}
+use Rattle.pyver_locks.specs.declared.lock_kind.LockKind.TheVariants.{Pdm, Poetry, Pylock, Unknown, Uv}
+use Rattle.pyver_projects.specs.ProjectStrings.{text_in, listed, inside, is_text_or_none, is_table_or_none, header_lines, is_array_or_none}
 use Rattle.pyver_projects.specs.RequirementStrings.{lacks, poetry_list}
 
 -- ---- the name of a file
@@ -189,7 +185,6 @@ has_markers Pylock document = true
 has_markers Poetry document = option_map_or (bytes_eq (codes "2.1")) (text_in (inside (codes "lock-version") (get_member (codes "metadata") document))) false
 has_markers Pdm document = nat_lt (length (listed (inside (codes "targets") (get_member (codes "metadata") document)))) 2
 has_markers Uv document = false
-has_markers Pipfile document = false
 has_markers Unknown document = false
 
 -- that of the one target
@@ -247,83 +242,3 @@ array_faults text key value =
 -- what is wrong with a package by itself and beside others
 abbrev pub package_faults : LockKind → Bool → List (List ℕ) → ℕ × Data → List LockFault
 package_faults kind marked names e = value_faults e ++ faults_beside kind marked names e
-
--- ---- `Pipfile.lock`
-
-abbrev pub object_entries : JsonMembers → List (List ℕ × JsonData)
-object_entries no_members = []
-object_entries (member k d ms) = (k, d) ∷ object_entries ms
-
-abbrev pub object_entries_or_none : Option JsonMembers → List (List ℕ × JsonData)
-object_entries_or_none None = []
-object_entries_or_none (Some ms) = object_entries ms
-
--- the members at the key, if there is an object
-abbrev pub section_members : List ℕ → JsonData → List (List ℕ × JsonData)
-section_members key document = object_entries_or_none (option_and_then as_object (json_get key document))
-
--- the version, without the `==` before it
-abbrev pub pinned_version : List ℕ → List ℕ
-pinned_version text = unwrap_or (after (codes "==") text) text
-
--- the version that the string pins: `*` is none, which Pipenv writes for what its own environment does not need
-abbrev pub known_version : List ℕ → Option (List ℕ)
-known_version text = if bytes_eq text (codes "*") then None else Some (pinned_version text)
-
--- the version of a package, if it has one
-abbrev pub package_version : JsonData → Option (List ℕ)
-package_version d = option_and_then known_version (option_and_then as_str (json_get (codes "version") d))
-
--- a member as a package, on the first line of the lock on which its name stands in quotes
-abbrev pub member_package : List ℕ → List ℕ × JsonData → LockedPackage
-member_package text e = record { line = number_or_one (first_line text e.0); name = e.0; version = package_version e.1; extras = []; condition = None }
-
--- both are one version, or none
-abbrev pub same_version : Option (List ℕ) → Option (List ℕ) → Bool
-same_version None None = true
-same_version (Some v) (Some w) = bytes_eq v w
-same_version _ _ = false
-
--- the package has this version, if there is a package
-abbrev pub has_version : Option (List ℕ) → Option JsonData → Bool
-has_version version None = false
-has_version version (Some d) = same_version version (package_version d)
-
--- a member of a section as a package, unless the section before has it with the same version
-abbrev pub new_package : List ℕ → Option JsonData → List ℕ × JsonData → List LockedPackage
-new_package text before e = if has_version (package_version e.1) (option_and_then (json_get e.0) before) then [] else member_package text e ∷ []
-
--- the packages of a lock with this text: those to run with, and those to develop with that are not the same
-abbrev pub member_packages : List ℕ → JsonData → List LockedPackage
-member_packages text document = flat_map (new_package text None) (section_members (codes "default") document)
-    ++ flat_map (new_package text (json_get (codes "default") document)) (section_members (codes "develop") document)
-
--- ---- values of other types
-
-abbrev pub is_object : JsonData → Bool
-is_object d = is_some (as_object d)
-
-abbrev pub is_string : JsonData → Bool
-is_string d = is_some (as_str d)
-
-module _ (text : List ℕ) where
-  -- that what has this name is wrong for this reason, unless it is right
-  abbrev pub named_fault : Bool → (name reason : List ℕ) → List LockFault
-  named_fault is_right name reason = fault_unless is_right (number_or_one (first_line text name)) name reason
-
-  -- that the value is, if there is one
-  abbrev pub invalid_value : List ℕ → List ℕ → (JsonData → Bool) → Option JsonData → List LockFault
-  invalid_value name reason is_right value = named_fault (option_map_or is_right value true) name reason
-
-  -- a package is an object, in which the version is a string
-  abbrev pub member_faults : List ℕ × JsonData → List LockFault
-  member_faults e = invalid_value e.0 (codes "not an object") is_object (Some e.1) ++ invalid_value e.0 (codes "its version is not a string") is_string (json_get (codes "version") e.1)
-
-  -- the packages at the key are an object
-  abbrev pub section_faults : List ℕ → JsonData → List LockFault
-  section_faults key document = invalid_value key (codes "not an object") is_object (json_get key document) ++ flat_map member_faults (section_members key document)
-
-  -- what is wrong with a lock with this text, which is an object
-  abbrev pub document_faults : JsonData → List LockFault
-  document_faults document = fault_unless (is_object document) 1 (codes "document") (codes "not an object")
-      ++ (section_faults (codes "default") document ++ section_faults (codes "develop") document)

@@ -1,18 +1,16 @@
 -- What a lock of each format has.
-use Rattle.std.specs.Prelude.{List, [], get_or, ℕ, ◌+◌, ◌∷◌, None, Option, Some, codes, Bool, bytes_eq, not, ◌&&◌, if◌then◌else◌, length, nat_lt, ◌==◌, ◌++◌, is_none, false, true, option_and_then}
+use Rattle.std.specs.Prelude.{List, [], get_or, ℕ, ◌+◌, ◌∷◌, None, Option, Some, codes, Bool, bytes_eq, not, ◌&&◌, if◌then◌else◌, length, nat_lt, ◌==◌, ◌++◌, is_none}
 use Rattle.std.specs.List.{list_any, flat_map}
-use Rattle.serde_json.specs.Data.{Data as JsonData}
-use Rattle.serde_json.specs.Find.{as_str as json_str, get as json_get}
+use Rattle.std.specs.Option.{option_or}
+use Rattle.pep440_pick.specs.Names.{normal}
 use Rattle.toml.specs.Data.{Data, get, Members, get_member}
-use Rattle.pyver_locks.specs.ContentHashes.{lock_hash, hash_by}
-use Rattle.pyver_locks.specs.LockContents.{LockedPackage, PackageCondition, LockParts, LockedRequirement, LockedExtra, LockContents, LockFault, ContentHash}
-use Rattle.pyver_locks.specs.LockedFiles.{names_listed, package_condition, files_from, package_faults, counted_names, has_markers, locked_python, array_faults, document_faults, member_packages}
+use Rattle.pyver_locks.specs.LockContents.{LockedPackage, PackageCondition, LockParts, LockedRequirement, LockedExtra, LockContents, LockFault}
+use Rattle.pyver_locks.specs.LockedFiles.{names_listed, package_condition, files_from, package_faults, counted_names, has_markers, locked_python, array_faults}
 use Rattle.pyver_locks.specs.PackageRequirements.{is_own_package, asked_keys, entries_from, extras_from, requirements_from}
 use Rattle.pyver_locks.specs.declared.lock_kind.LockKind.{LockKind}
 use Rattle.pyver_locks.specs.declared.lock_kind.LockKind.TheVariants.{Pdm, Pylock, Poetry, Uv}
 use Rattle.pyver_projects.specs.ProjectStrings.{text_in, inside, texts_listed, Inclusion, inclusions_by, includes, entries, header_lines, listed}
 use Rattle.pyver_projects.specs.ProjectTables.{condition}
-use Rattle.pyver_locks.specs.declared.locked_package.HashRule.TheVariants as rule
 
 -- ---- locks
 
@@ -22,13 +20,13 @@ numbered_tables lines i [] = []
 numbered_tables lines i (d ∷ ds) = (get_or lines i 1, d) ∷ numbered_tables lines (i + 1) ds
 
 -- a package on this line, if it has a name
-abbrev pub package_in : ℕ → Option (List ℕ) → Option (List ℕ) → List (List ℕ) → Option PackageCondition → List LockedPackage
-package_in line None version extras condition = []
-package_in line (Some name) version extras condition = record { line = line; name = name; version = version; extras = extras; condition = condition } ∷ []
+abbrev pub package_in : ℕ → Option (List ℕ) → Option (List ℕ) → Option PackageCondition → List LockedPackage
+package_in line None version condition = []
+package_in line (Some name) version condition = record { line = line; name = name; version = version; condition = condition } ∷ []
 
 -- of a lock for these Pythons, if they are known
 abbrev pub package_from : Option (List ℕ) → ℕ × Data → List LockedPackage
-package_from python e = package_in e.0 (text_in (get (codes "name") e.1)) (text_in (get (codes "version") e.1)) (names_listed (get (codes "extras") e.1)) (package_condition python e.1)
+package_from python e = package_in e.0 (text_in (get (codes "name") e.1)) (text_in (get (codes "version") e.1)) (package_condition python e.1)
 
 -- the group is one of these
 abbrev pub is_listed_part : List (List ℕ) → List ℕ → Bool
@@ -68,21 +66,37 @@ own_python Uv document packages = if list_any is_own_package packages && is_none
     then text_in (get_member (codes "requires-python") document) else None
 own_python kind document packages = None
 
--- the lock has a package for each set of extras that is asked for, as PDM's
-abbrev pub has_extra_packages : LockKind → Bool
-has_extra_packages Pdm = true
-has_extra_packages kind = false
+-- the folder with this path in that of the lock: what stands before the names of its files
+abbrev pub member_folder : List ℕ → List ℕ
+member_folder path = if bytes_eq path (codes ".") then [] else path ++ codes "/"
 
--- the parts of a lock with this text and these packages. Only one of PEP 751 has extras and groups for markers, and environments
-abbrev pub lock_parts : LockKind → List ℕ → Members → List Data → LockParts
-lock_parts kind text document packages = record {
+-- where a package lies that is a project in a folder
+abbrev pub member_path : Data → Option (List ℕ)
+member_path d = option_or (text_in (inside (codes "editable") (get (codes "source") d))) (text_in (inside (codes "virtual") (get (codes "source") d)))
+
+-- the folder with this path, if the package with this name is one of these
+abbrev pub member_by : List (List ℕ) → Option (List ℕ) → Option (List ℕ) → List (List ℕ)
+member_by names (Some name) (Some path) = if list_any (bytes_eq (normal name)) names then member_folder path ∷ [] else []
+member_by names (Some name) None = []
+member_by names None path = []
+
+abbrev pub member_from : List (List ℕ) → Data → List (List ℕ)
+member_from names d = member_by names (text_in (get (codes "name") d)) (member_path d)
+
+-- the folders of the members of the workspace that a lock of uv names, and has as packages (uv, "Workspaces")
+abbrev pub lock_members : LockKind → Members → List Data → List (List ℕ)
+lock_members Uv document packages = flat_map (member_from (names_listed (inside (codes "members") (get_member (codes "manifest") document)))) packages
+lock_members kind document packages = []
+
+-- the parts of a lock with these packages. Only one of PEP 751 has extras and groups for markers, and environments
+abbrev pub lock_parts : LockKind → Members → List Data → LockParts
+lock_parts kind document packages = record {
   names = part_names kind document ++ package_parts kind packages;
   extras = names_listed (get_member (codes "extras") document);
   groups = names_listed (get_member (codes "dependency-groups") document) ++ names_listed (get_member (codes "default-groups") document);
   environments = texts_listed (get_member (codes "environments") document);
-  hash = lock_hash kind text document;
   python = own_python kind document packages;
-  by_extras = has_extra_packages kind;
+  members = lock_members kind document packages;
 }
 
 -- which extras a requirement asks for, under no key
@@ -129,19 +143,11 @@ table_contents kind parts found marked python names tables = record {
   faults = found ++ flat_map (package_faults kind marked names) tables;
 }
 
--- what a lock of this kind with this text has in these packages, with these lines of headers, beside these faults
-abbrev pub packages_contents : LockKind → List ℕ → List ℕ → List LockFault → Members → List Data → LockContents
-packages_contents kind text lines found document packages =
-    table_contents kind (lock_parts kind text document packages) found (has_markers kind document) (locked_python kind document) (flat_map (counted_names kind) packages) (numbered_tables lines 0 packages)
+-- what a lock of this kind has in these packages, with these lines of headers, beside these faults
+abbrev pub packages_contents : LockKind → List ℕ → List LockFault → Members → List Data → LockContents
+packages_contents kind lines found document packages =
+    table_contents kind (lock_parts kind document packages) found (has_markers kind document) (locked_python kind document) (flat_map (counted_names kind) packages) (numbered_tables lines 0 packages)
 
 -- in those in the array of tables at this key, each under this header, of a lock with this text
 abbrev pub contents : LockKind → List ℕ → List ℕ → List ℕ → Members → LockContents
-contents kind header text key document = packages_contents kind text (header_lines header text) (array_faults text key (get_member key document)) document (listed (get_member key document))
-
--- the hash of the Pipfile in its lock, which has it among other things about itself
-abbrev pub pipfile_hash : JsonData → Option ContentHash
-pipfile_hash document = hash_by rule.Pipenv (option_and_then json_str (option_and_then (json_get (codes "sha256")) (option_and_then (json_get (codes "hash")) (json_get (codes "_meta") document))))
-
--- what `Pipfile.lock` with this text has: packages and a hash
-abbrev pub pipfile_contents : List ℕ → JsonData → LockContents
-pipfile_contents text document = record { parts = record { names = []; extras = []; groups = []; environments = []; hash = pipfile_hash document; python = None; by_extras = false }; packages = member_packages text document; requirements = []; optional = []; entries = []; files = []; faults = document_faults text document }
+contents kind header text key document = packages_contents kind (header_lines header text) (array_faults text key (get_member key document)) document (listed (get_member key document))

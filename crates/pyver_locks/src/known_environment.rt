@@ -1,12 +1,11 @@
 //! The known environments, and in which of them the marker of a package holds.
 ghost use Rattle.std.specs.Prelude.{◌≡◌, IfOk, map, option_map, string_bytes, ◌++◌};
 ghost use Rattle.std.specs.List.{list_all, list_any};
-ghost use Rattle.pyver_locks.specs.KnownEnvironments.{os_name, platform_machine, platform_system, sys_platform, system_name, python_text, cpython_variables, with_names, known_environment, marker_value, is_true_in, holds_everywhere, environment_name, is_left_out, is_left_out_in, is_for, environments_of, known_environments, read_condition_of};
+ghost use Rattle.pyver_locks.specs.KnownEnvironments.{os_name, platform_machine, platform_system, sys_platform, system_name, python_text, cpython_variables, with_names, known_environment, marker_value, is_true_in, holds_everywhere, environment_name, is_false, is_left_out, is_left_out_in, is_for, environments_of, known_environments, read_condition_of};
 ghost use Rattle.pyver_locks.specs.LockContents.{parts_of};
 ghost use Rattle.pyver_markers.specs.Extents.{setting_of};
 ghost use Rattle.pyver_markers.specs.Environments.{Text, Names, assigned};
 ghost use Rattle.pyver_markers.specs.MarkerValues.{value};
-ghost use Rattle.pyver_projects.specs.ProjectTables.{is_false};
 ghost use Rattle.pyver_requirements.specs.MarkerGrammar.{Marker};
 ghost use Rattle.pyver_requirements.specs.MarkerSteps.{steps};
 

@@ -1,11 +1,9 @@
-//! What locks hold: `pylock.toml`, `uv.lock`, `poetry.lock`, `pdm.lock` and `Pipfile.lock`.
+//! What locks hold: `pylock.toml`, `uv.lock`, `poetry.lock` and `pdm.lock`.
 //!
-//! In reading order: `lock_kind`; what is read, in `locked_package`; `toml_lock` and `pipfile_lock`, which read it, with `lock_faults`,
-//! `package_requirements`, `package_extras` and `own_entries`; `known_environment`; and the hash of a project, in `content_hash` over `json_text`.
+//! In reading order: `lock_kind`; what is read, in `locked_package`; `toml_lock`, which reads it, with `lock_faults`, `workspace`,
+//! `package_requirements`, `package_extras` and `own_entries`; and `known_environment`.
 #![tactic(auto)]
 
-pub mod content_hash;
-mod json_text;
 pub mod known_environment;
 pub mod lock_faults;
 pub mod lock_kind;
@@ -13,5 +11,5 @@ pub mod locked_package;
 mod own_entries;
 pub mod package_extras;
 mod package_requirements;
-pub mod pipfile_lock;
 pub mod toml_lock;
+mod workspace;

@@ -5,16 +5,16 @@ ghost use Rattle.toml.specs.Data.{as_str, get_member};
 ghost use Rattle.toml.specs.View.{table_view, view};
 ghost use Rattle.pyver_locks.specs.LockContents.{condition_of_package, parts_of, fault_of};
 ghost use Rattle.pyver_locks.specs.LockedFiles.{has_markers, target_python, locked_python, package_condition, is_uv, written_marker, marker_text, marked_name, package_name_in, names_listed, marked_names, counted_names, is_shared, twin_fault, twin_in, twins, ambiguous_fault, ambiguous_name, ambiguous_item, ambiguous, faults_beside, fault_unless, text_faults, value_faults, package_faults};
-ghost use Rattle.pyver_locks.specs.Locks.{is_new_group, has_default, named_parts, with_default, part_names, package_parts, own_python, has_extra_packages, lock_parts};
+ghost use Rattle.pyver_locks.specs.Locks.{is_new_group, has_default, named_parts, with_default, part_names, package_parts, own_python, lock_parts};
 ghost use Rattle.pyver_locks.specs.PackageRequirements.{is_own_package};
 ghost use Rattle.pyver_projects.specs.ProjectStrings.{inside, IsNameIndex, indexed_names};
 ghost use Rattle.pyver_projects.specs.RequirementStrings.{poetry_list};
 ghost use Rattle.pyver_locks.specs.declared.lock_kind.LockKind.TheVariants as lock_kind;
 
-use crate::content_hash::lock_hash;
 use crate::lock_kind::LockKind;
 use crate::locked_package::{LockFault, LockParts, PackageCondition, package_text};
 use crate::own_entries::is_own_package;
+use crate::workspace::lock_members;
 use pep440_pick::normalize_name;
 use pyver_projects::inclusions::NameIndex;
 use pyver_projects::requirement_strings::{copy_text, first_of, lacks, poetry_list};
@@ -34,7 +34,7 @@ pub(crate) fn has_markers(kind: LockKind, document: &Table) -> bool
             None => false,
         },
         LockKind::Pdm => items(inside(metadata, "targets")).len() < 2,
-        LockKind::Uv | LockKind::Pipfile | LockKind::Unknown => false,
+        LockKind::Uv | LockKind::Unknown => false,
     }
 }
 
@@ -352,22 +352,14 @@ fn own_python(
     }
 }
 
-// The lock has a package for each set of extras that is asked for.
-fn has_extra_packages(kind: LockKind) -> bool
-    ensures { result ≡ has_extra_packages kind }
-{
-    matches!(kind, LockKind::Pdm)
-}
-
 // The parts of a lock of this kind with these packages.
 pub(crate) fn lock_parts(
     alloc: Global,
     kind: LockKind,
-    text: &[u8],
     document: &Table,
     packages: &[Value],
 ) -> Result<LockParts, AllocError>
-    ensures { IfOk result (λ parts. parts_of parts ≡ lock_parts kind text.now (table_view document.now) (map view packages.now)) }
+    ensures { IfOk result (λ parts. parts_of parts ≡ lock_parts kind (table_view document.now) (map view packages.now)) }
 {
     let mut names = part_names(alloc, kind, document)?;
     push_package_parts(alloc, &mut names, kind, packages)?;
@@ -375,16 +367,15 @@ pub(crate) fn lock_parts(
     let mut groups = listed_names(alloc, top(document, "dependency-groups"))?;
     push_listed_names(alloc, &mut groups, top(document, "default-groups"))?;
     let environments = listed_texts(alloc, items(top(document, "environments")))?;
-    let hash = lock_hash(alloc, kind, text, document)?;
     let python = own_python(alloc, kind, document, packages)?;
+    let members = lock_members(alloc, kind, document, packages)?;
     Ok(LockParts {
         names,
         extras,
         groups,
         environments,
-        hash,
         python,
-        by_extras: has_extra_packages(kind),
+        members,
     })
 }
 

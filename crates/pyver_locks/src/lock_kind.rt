@@ -11,8 +11,6 @@ pub enum LockKind {
     Poetry,
     /// `pdm.lock`.
     Pdm,
-    /// `Pipfile.lock`.
-    Pipfile,
     /// Any other file that is given as a lock. It is not read.
     Unknown,
 }

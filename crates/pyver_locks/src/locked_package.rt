@@ -26,8 +26,6 @@ pub struct LockedPackage {
     pub line: u64,
     pub name: String,
     pub version: Option<String>,
-    /// The extras that it is for, in their normal forms.
-    pub extras: Vec<Vec<u8>>,
     /// In which environments it is, if not in all.
     pub condition: Option<PackageCondition>,
 }
@@ -81,31 +79,6 @@ pub struct LockFault {
     pub reason: &'static str,
 }
 
-/// What is hashed of a project.
-#[derive(Clone, Copy, Debug, PartialEq, Eq)]
-pub enum HashRule {
-    /// What each Poetry does: 1 the tables of Poetry, 2 also the table `project`, from 2.3 on also the groups.
-    PoetryTables,
-    /// What Poetry 2 does.
-    PoetryProject,
-    /// What Poetry does from 2.3 on.
-    PoetryGroups,
-    /// What PDM does.
-    Pdm,
-    /// The same, for `pylock.toml`.
-    PdmPylock,
-    /// What Pipenv does.
-    Pipenv,
-}
-
-/// The hash of its project that a lock has.
-#[derive(Drop)]
-pub struct ContentHash {
-    pub rule: HashRule,
-    /// In hexadecimal digits.
-    pub value: Vec<u8>,
-}
-
 /// The parts of a project that a lock has, in normal form.
 #[derive(Drop)]
 pub struct LockParts {
@@ -116,12 +89,10 @@ pub struct LockParts {
     pub groups: Vec<Vec<u8>>,
     /// The markers of the environments that it is for, or none.
     pub environments: Vec<Vec<u8>>,
-    /// The hash of the project, if it is known what is hashed.
-    pub hash: Option<ContentHash>,
     /// For which versions of Python it says that the project in its folder is.
     pub python: Option<String>,
-    /// It has a package for each set of extras that is asked for.
-    pub by_extras: bool,
+    /// The folders of its members, as its own folder has them: what stands before the names of their files.
+    pub members: Vec<Vec<u8>>,
 }
 
 /// What is read of a lock.

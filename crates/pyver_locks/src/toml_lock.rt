@@ -7,8 +7,8 @@ ghost use Rattle.pyver_locks.specs.Locks.{package_in, package_from, numbered_tab
 ghost use Rattle.pyver_projects.specs.ProjectStrings.{header_lines, IsNameIndex, indexed_names};
 
 use crate::lock_faults::{
-    CountedNames, counted_names, has_markers, listed_names, lock_parts, locked_python,
-    package_condition, push_fault_unless, push_package_faults,
+    CountedNames, counted_names, has_markers, lock_parts, locked_python, package_condition,
+    push_fault_unless, push_package_faults,
 };
 use crate::lock_kind::LockKind;
 use crate::locked_package::{
@@ -31,10 +31,9 @@ fn push_package(
     line: u64,
     name: Option<&str>,
     version: Option<&str>,
-    extras: Vec<Vec<u8>>,
     condition: Option<PackageCondition>,
 ) -> Result<(), AllocError>
-    ensures { IfOk result (λ _. map locked_of packages.new.items ≡ map locked_of packages.old.items ++ package_in line (option_map (λ t. t.now) name.entry) (option_map (λ t. t.now) version.entry) (map (λ e. e.items) extras.items) (option_map condition_of_package condition)) }
+    ensures { IfOk result (λ _. map locked_of packages.new.items ≡ map locked_of packages.old.items ++ package_in line (option_map (λ t. t.now) name.entry) (option_map (λ t. t.now) version.entry) (option_map condition_of_package condition)) }
 {
     let Some(name) = name else {
         return Ok(());
@@ -45,7 +44,6 @@ fn push_package(
         line,
         name,
         version,
-        extras,
         condition,
     })?;
     Ok(())
@@ -62,9 +60,8 @@ fn push_item(
 {
     let name = text(item.get("name"));
     let version = text(item.get("version"));
-    let extras = listed_names(alloc, item.get("extras"))?;
     let condition = package_condition(alloc, python, item)?;
-    push_package(alloc, packages, line, name, version, extras, condition)
+    push_package(alloc, packages, line, name, version, condition)
 }
 
 fn line_or_one(lines: &[u64], index: usize) -> u64
@@ -182,6 +179,6 @@ pub fn toml_contents(
         python,
         names: NameIndex::new(alloc, names.as_slice())?,
     };
-    let parts = lock_parts(alloc, kind, text.as_bytes(), document, tables)?;
+    let parts = lock_parts(alloc, kind, document, tables)?;
     read_tables(alloc, parts, faults, &counted, lines.as_slice(), tables)
 }

@@ -1,4 +1,4 @@
--- What stands in the documents of a project: values of TOML that are tables, arrays or strings; strings of `pyproject.toml` or a Pipfile that are to be
+-- What stands in the documents of a project: values of TOML that are tables, arrays or strings; strings of `pyproject.toml` that are to be
 -- requirements, lists of specifiers or versions; on which lines they stand; and maps with names: repeated ones, and inclusions by the groups that have them.
 use Rattle.std.specs.Prelude.{List, [], ◌∷◌, ℕ, Option, option_and_then, None, Some, Bool, true, is_some, option_to_list, map, bytes_eq, ◌&&◌, suc, zero, ◌||◌, length, ◌==◌, not, if◌then◌else◌, nat_lt, take, count_by, ◌+◌, nat_eq, ◌++◌, ◌≡◌, codes, drop, ◌%◌, option_map, string_bytes}
 use Rattle.std.specs.BTreeMap.{get_by}
@@ -9,7 +9,6 @@ use Rattle.std.specs.Ordering.{nat_cmp}
 use Rattle.toml.specs.Data.{Data, Items, item, no_items, Members, member, no_members, get, as_array, as_table, as_str}
 use Rattle.pyver_projects.specs.declared.place.Places.{Places}
 use Rattle.pyver_projects.specs.declared.place.QuotedLines.{QuotedLines}
-use Rattle.pyver_projects.specs.declared.project.EntryTool.{EntryTool}
 use Rattle.pyver_requirements.specs.declared.cause.Cause.{Cause}
 use Rattle.std.specs.Borrow.{Bor}
 use Rattle.std.specs.HashMap.{HashMap, get_by as get_hashed}
@@ -73,11 +72,10 @@ is_table_or_none value = is_some_or as_table value
 abbrev pub is_text_or_none : Option Data → Bool
 is_text_or_none value = is_some_or as_str value
 
--- where a string stands in `pyproject.toml` or a Pipfile: extras and groups by the normal forms of their names, and for the name of a group that
+-- where a string stands in `pyproject.toml`: extras and groups by the normal forms of their names, and for the name of a group that
 -- another includes both; or, for a string that asks for extras of the project itself, the extra that includes these, if one does, and these;
 -- or, for a key or a name that is invalid, the path of what it stands in, and why it is; or, for what a key of a table of
--- Poetry or Pipenv asks for, the tool, the path of the table and the key; or that it is a constraint or an override of uv; or whether the project
--- is installed in an environment of Hatch, and the path of its table; or why what stands there is not read
+-- Poetry asks for, the path of the table and the key; or that it is a constraint or an override of uv; or why what stands there is not read
 pub data Section : Type 0 where
   Dependencies : Section
   Extra : List ℕ → Section
@@ -85,9 +83,8 @@ pub data Section : Type 0 where
   Include : (group included : List ℕ) → Section
   OwnExtras : (asker : Option (List ℕ)) → (extras : List (List ℕ)) → Section
   Invalid : (table reason : List ℕ) → Section
-  Entry : EntryTool → (table name : List ℕ) → Section
+  Entry : (table name : List ℕ) → Section
   Constraint : Section
-  Environment : (is_installed : Bool) → (table : List ℕ) → Section
   Unread : Cause → Section
   Build : Section
   Python : Section
@@ -263,9 +260,8 @@ section_path (Group name) = codes "dependency-groups."
 section_path (Include group included) = codes "dependency-groups."
 section_path (OwnExtras asker extras) = codes "project.optional-dependencies."
 section_path (Invalid table reason) = table
-section_path (Entry tool table name) = table
+section_path (Entry table name) = table
 section_path Constraint = codes "tool.uv."
-section_path (Environment is_installed table) = table
 section_path (Unread c) = []
 section_path Build = codes "build-system.requires."
 section_path Python = codes "project.requires-python."
@@ -274,7 +270,7 @@ section_path Version = codes "project.version."
 -- the number of the line of a key that is invalid, or that asks for a package
 abbrev pub own_line : List ℕ → Section → List ℕ → Option ℕ
 own_line text (Invalid table reason) name = key_line text (key_path table name)
-own_line text (Entry tool table name) string = key_line text (key_path table name)
+own_line text (Entry table name) string = key_line text (key_path table name)
 own_line text section name = None
 
 -- the number of the line of a string: a key has its own, another string the first on which it opens, or that of what it stands in; or 1
@@ -292,9 +288,8 @@ section_of (section.Group name) = Group name.items
 section_of (section.Include group included) = Include group.items included.items
 section_of (section.OwnExtras asker extras) = OwnExtras (option_map (λ n. n.items) asker) (map (λ e. e.items) extras.items)
 section_of (section.Invalid table reason) = Invalid table.items reason.now
-section_of (section.Entry tool table name) = Entry tool table.items name.items
+section_of (section.Entry table name) = Entry table.items name.items
 section_of section.Constraint = Constraint
-section_of (section.Environment is_installed table) = Environment is_installed table.items
 section_of (section.Unread c) = Unread c
 section_of section.Build = Build
 section_of section.Python = Python

@@ -1,21 +1,17 @@
--- What `pyproject.toml` or a Pipfile has to check: the strings in its tables and in those of tools, names of groups and extras, and what asks the project
+-- What `pyproject.toml` has to check: the strings in its tables and in those of tools, names of groups and extras, and what asks the project
 -- itself for extras.
-use Rattle.std.specs.Prelude.{List, [], ℕ, ◌∷◌, Bool, if◌then◌else◌, None, Option, Some, codes, not, ◌++◌, ◌+◌, is_none, map, bytes_eq, count_by, nat_lt, length, nat_eq, ◌&&◌, option_and_then, ◌==◌, ◌||◌, is_some, true, false, option_map, option_to_list}
-use Rattle.std.specs.List.{flat_map, list_all, list_any}
+use Rattle.std.specs.Prelude.{List, [], ℕ, ◌∷◌, Bool, if◌then◌else◌, None, Option, Some, codes, not, ◌++◌, ◌+◌, is_none, map, bytes_eq, count_by, nat_lt, length, nat_eq, ◌&&◌, option_and_then, ◌||◌, is_some, false, option_map, option_to_list}
+use Rattle.std.specs.List.{flat_map, list_any}
 use Rattle.std.specs.Option.{option_map_or, option_or, unwrap_or}
 use Rattle.pep440_pick.specs.Names.{normal, is_name, is_name_byte}
 use Rattle.pep440_pick.specs.RequirementReading.{name_of}
 use Rattle.pep440_rs.specs.Blanks.{opens}
-use Rattle.pep440_version.specs.Grammar.{starts}
 use Rattle.pep440_version.specs.Reading.{lead}
-use Rattle.toml.specs.Data.{Data, as_str, Members, get_member, get, as_table, as_array, as_bool}
-use Rattle.pyver_projects.specs.ProjectStrings.{Invalid, ProjectString, Section, is_array_or_none, listed, inside, Extra, entries, text_in, Group, Include, is_table_or_none, Python, Version, Dependencies, Build, is_text_or_none, after_blanks, Unread, Entry, texts_listed, key_path, Environment, Constraint, OwnExtras}
-use Rattle.pyver_projects.specs.RequirementStrings.{plain_list, poetry_list, both_markers, platform_marker, python_marker, extras_text, requirement_text, marked_text, string_extras, is_conditional}
-use Rattle.pyver_projects.specs.declared.project.EntryTool.{EntryTool}
+use Rattle.toml.specs.Data.{Data, as_str, Members, get_member, get, as_table, as_array}
+use Rattle.pyver_projects.specs.ProjectStrings.{Invalid, ProjectString, Section, is_array_or_none, listed, inside, Extra, entries, text_in, Group, Include, is_table_or_none, Python, Version, Dependencies, Build, is_text_or_none, Unread, Entry, texts_listed, key_path, Constraint, OwnExtras}
+use Rattle.pyver_projects.specs.RequirementStrings.{poetry_list, both_markers, platform_marker, python_marker, extras_text, requirement_text, marked_text, string_extras, is_conditional}
 use Rattle.pyver_projects.specs.declared.tool_tables.GroupTool.{GroupTool}
-use Rattle.pyver_requirements.specs.MarkerTokens.{is_operator_byte}
 use Rattle.pyver_requirements.specs.declared.cause.Cause.{Cause}
-use Rattle.pyver_projects.specs.declared.project.EntryTool.TheVariants as of_entries
 use Rattle.pyver_projects.specs.declared.tool_tables.GroupTool.TheVariants as of_tool
 use Rattle.pyver_requirements.specs.declared.cause.Cause.TheVariants as cause
 
@@ -143,52 +139,26 @@ build_sources document = array_sources (codes "build-system.") (codes "requires"
 
 -- ---- tables of tools
 
--- the variables of markers, which are keys in tables of Pipenv ("Specifiers" of Pipenv)
-abbrev pub variable_names : List (List ℕ)
-variable_names = codes "os_name" ∷ (codes "sys_platform" ∷ (codes "platform_machine" ∷ (codes "platform_python_implementation" ∷ (codes "platform_release" ∷ (codes "platform_system"
-    ∷ (codes "platform_version" ∷ (codes "python_version" ∷ (codes "python_full_version" ∷ (codes "implementation_name" ∷ (codes "implementation_version" ∷ []))))))))))
-
 -- the conditions of a table, if it has some, are those that are read, and strings
-abbrev pub has_conditions : EntryTool → Data → Bool
-has_conditions of_entries.Poetry d = is_text_or_none (get (codes "markers") d) && (is_text_or_none (get (codes "python") d) && is_text_or_none (get (codes "platform") d))
-has_conditions of_entries.Pipenv d = is_text_or_none (get (codes "markers") d) && list_all (λ (name : List ℕ). is_text_or_none (get name d)) variable_names
+abbrev pub has_conditions : Data → Bool
+has_conditions d = is_text_or_none (get (codes "markers") d) && (is_text_or_none (get (codes "python") d) && is_text_or_none (get (codes "platform") d))
 
 -- the list of a table, or `*`
-abbrev pub table_list : EntryTool → Data → Option (List ℕ)
-table_list tool d = if has_conditions tool d then Some (option_map_or (λ list. list) (text_in (get (codes "version") d)) (codes "*")) else None
+abbrev pub table_list : Data → Option (List ℕ)
+table_list d = if has_conditions d then Some (option_map_or (λ list. list) (text_in (get (codes "version") d)) (codes "*")) else None
 
 -- the list of an entry: a string, or a table
-abbrev pub entry_list : EntryTool → Data → Option (List ℕ)
-entry_list tool d = option_or (as_str d) (option_and_then (λ (members : Members). table_list tool d) (as_table d))
-
--- a list of Pipenv, in which a version by itself is this one
-abbrev pub pipenv_list : List ℕ → List ℕ
-pipenv_list list = if starts is_operator_byte (after_blanks list) || bytes_eq list [] then list else codes "==" ++ list
-
--- the list as one of PEP 440
-abbrev pub entry_specifiers : EntryTool → List ℕ → List ℕ
-entry_specifiers of_entries.Poetry list = poetry_list list
-entry_specifiers of_entries.Pipenv list = pipenv_list (plain_list list)
+abbrev pub entry_list : Data → Option (List ℕ)
+entry_list d = option_or (as_str d) (option_and_then (λ (members : Members). table_list d) (as_table d))
 
 -- the condition of a table, or none
 abbrev pub condition : List ℕ → Data → List ℕ
 condition key d = unwrap_or (text_in (get key d)) []
 
--- the variable before the comparison at its key, if there is one
-abbrev pub variable_comparison : List ℕ → List ℕ → List ℕ
-variable_comparison name [] = []
-variable_comparison name (b ∷ comparison) = name ++ (codes " " ++ (b ∷ comparison))
-
--- the marker, and after it what the table says of each of these variables
-abbrev pub with_variables : Data → List ℕ → List (List ℕ) → List ℕ
-with_variables d marker [] = marker
-with_variables d marker (name ∷ names) = with_variables d (both_markers marker (variable_comparison name (condition name d))) names
-
 -- the conditions of an entry as one marker, where `python` has a list of Poetry ("`python` restricted dependencies", "Using environment markers")
-abbrev pub entry_marker : EntryTool → Data → List ℕ
-entry_marker of_entries.Poetry d = both_markers (condition (codes "markers") d)
+abbrev pub entry_marker : Data → List ℕ
+entry_marker d = both_markers (condition (codes "markers") d)
     (both_markers (python_marker (poetry_list (condition (codes "python") d))) (platform_marker (condition (codes "platform") d)))
-entry_marker of_entries.Pipenv d = with_variables d (condition (codes "markers") d) variable_names
 
 -- the name and the list are those of a package
 abbrev pub is_package_name : List ℕ → Bool
@@ -199,37 +169,28 @@ abbrev pub unread : Cause → List ProjectString
 unread c = record { section = Unread c; text = [] } ∷ []
 
 -- the entry of this name with these extras, this list and this marker, as a requirement of PEP 508
-abbrev pub listed_source : EntryTool → List ℕ → List ℕ → List (List ℕ) → List ℕ → Option (List ℕ) → List ProjectString
-listed_source tool table name extras marker None = unread cause.OtherSyntax
-listed_source tool table name extras marker (Some list) = record { section = Entry tool table name; text = marked_text (requirement_text (name ++ extras_text extras) (entry_specifiers tool list)) marker } ∷ []
+abbrev pub listed_source : List ℕ → List ℕ → List (List ℕ) → List ℕ → Option (List ℕ) → List ProjectString
+listed_source table name extras marker None = unread cause.OtherSyntax
+listed_source table name extras marker (Some list) = record { section = Entry table name; text = marked_text (requirement_text (name ++ extras_text extras) (poetry_list list)) marker } ∷ []
 
-abbrev pub entry_source : EntryTool → List ℕ → List ℕ → Data → List ProjectString
-entry_source tool table name d = listed_source tool table name (texts_listed (get (codes "extras") d)) (entry_marker tool d) (entry_list tool d)
+abbrev pub entry_source : List ℕ → List ℕ → Data → List ProjectString
+entry_source table name d = listed_source table name (texts_listed (get (codes "extras") d)) (entry_marker d) (entry_list d)
 
 -- what an array of entries asks for, or another value, which is one ("Multiple constraints dependencies")
-abbrev pub each_source : EntryTool → List ℕ → List ℕ → Data → List ProjectString
-each_source tool table name d = if is_some (as_array d) then flat_map (entry_source tool table name) (listed (Some d)) else entry_source tool table name d
+abbrev pub each_source : List ℕ → List ℕ → Data → List ProjectString
+each_source table name d = if is_some (as_array d) then flat_map (entry_source table name) (listed (Some d)) else entry_source table name d
 
--- an entry of Pipenv is a string or a table
-abbrev pub is_entry : EntryTool → Data → Bool
-is_entry of_entries.Poetry d = true
-is_entry of_entries.Pipenv d = is_some (as_str d) || is_some (as_table d)
-
--- what it asks for, or that it is none
-abbrev pub sources_or_fault : EntryTool → List ℕ → List ℕ → Data → List ProjectString
-sources_or_fault tool table name d = if is_entry tool d then each_source tool table name d else invalid_name table name (codes "neither a string nor a table")
-
--- what an entry of the tool's table with this path asks for
-unfoldable pub entry_sources : EntryTool → List ℕ → List ℕ × Data → List ProjectString
-entry_sources tool table e = if is_package_name e.0 then sources_or_fault tool table e.0 e.1 else []
+-- what an entry of Poetry's table with this path asks for
+unfoldable pub entry_sources : List ℕ → List ℕ × Data → List ProjectString
+entry_sources table e = if is_package_name e.0 then each_source table e.0 e.1 else []
 
 -- the entries of the table
-abbrev pub tool_table : EntryTool → List ℕ → Option Data → List ProjectString
-tool_table tool table value = flat_map (entry_sources tool table) (entries value)
+abbrev pub tool_table : List ℕ → Option Data → List ProjectString
+tool_table table value = flat_map (entry_sources table) (entries value)
 
--- what uv or Rye, whose table has this path, adds to the group `dev`
-abbrev pub dev_sources : List ℕ → Option Data → List ProjectString
-dev_sources table tool = array_sources table (codes "dev-dependencies") (Group (codes "dev")) (inside (codes "dev-dependencies") tool)
+-- what uv adds to the group `dev`
+abbrev pub dev_sources : Option Data → List ProjectString
+dev_sources uv = array_sources (codes "tool.uv.") (codes "dev-dependencies") (Group (codes "dev")) (inside (codes "dev-dependencies") uv)
 
 -- the item is an editable of PDM
 abbrev pub is_editable : Data → Bool
@@ -242,46 +203,19 @@ group_path name = key_path (codes "tool.poetry.group.") name ++ codes "dependenc
 -- what an entry of a table of groups asks for: of Poetry, whose groups are tables with one for what they ask for; or of PDM, whose groups are arrays of
 -- requirements, unless one is an editable
 abbrev pub tool_group : GroupTool → List ℕ × Data → List ProjectString
-tool_group of_tool.Poetry e = tool_table of_entries.Poetry (group_path e.0) (get (codes "dependencies") e.1)
+tool_group of_tool.Poetry e = tool_table (group_path e.0) (get (codes "dependencies") e.1)
 tool_group of_tool.Pdm e = if list_any is_editable (listed (Some e.1)) then unread cause.Editable else array_sources (codes "tool.pdm.dev-dependencies.") e.0 (Group (normal e.0)) (Some e.1)
 
 -- the groups of such a table
 abbrev pub tool_groups : GroupTool → Option Data → List ProjectString
 tool_groups tool value = flat_map (tool_group tool) (entries value)
 
--- ---- environments of Hatch
-
--- the environment, if there is one, has a key that says whether the project is installed in it ("Skip install", "Detached environments" of "Environment configuration")
-abbrev pub has_install_key : Option Data → Bool
-has_install_key d = is_some (inside (codes "skip-install") d) || is_some (inside (codes "detached") d)
-
--- the project is installed in it with its dependencies, as it is unless it says something of that, or that from which it inherits: `default`, if it has
--- no other template ("Inheritance")
-abbrev pub has_project : Option Data → Data → Bool
-has_project default d = is_none (get (codes "template") d) && (not (has_install_key (Some d)) && not (has_install_key default))
-
--- the path of the array of the environment with this name
-abbrev pub array_name : List ℕ → List ℕ → List ℕ
-array_name name key = name ++ (codes "." ++ key)
-
--- the requirements in the array with this key of the environment with this name
-unfoldable pub environment_array : Bool → List ℕ → List ℕ → Data → List ProjectString
-environment_array is_installed name key d = array_sources (codes "tool.hatch.envs.") (array_name name key) (Environment is_installed (key_path (codes "tool.hatch.envs.") name)) (get key d)
-
--- those of both arrays of an environment, beside the environment `default` ("Dependencies")
-abbrev pub environment_sources : Option Data → List ℕ × Data → List ProjectString
-environment_sources default e = environment_array (has_project default e.1) e.0 (codes "dependencies") e.1 ++ environment_array (has_project default e.1) e.0 (codes "extra-dependencies") e.1
-
--- those of all environments
-abbrev pub environments_sources : Option Data → List ProjectString
-environments_sources envs = flat_map (environment_sources (inside (codes "default") envs)) (entries envs)
-
 -- ---- all tables of tools
 
 -- what Poetry's tables ask for ("Dependencies and dev-dependencies", "Dependency groups" of Poetry)
 abbrev pub poetry_sources : Option Data → List ProjectString
-poetry_sources poetry = tool_table of_entries.Poetry (codes "tool.poetry.dependencies.") (inside (codes "dependencies") poetry)
-    ++ (tool_table of_entries.Poetry (codes "tool.poetry.dev-dependencies.") (inside (codes "dev-dependencies") poetry)
+poetry_sources poetry = tool_table (codes "tool.poetry.dependencies.") (inside (codes "dependencies") poetry)
+    ++ (tool_table (codes "tool.poetry.dev-dependencies.") (inside (codes "dev-dependencies") poetry)
     ++ tool_groups of_tool.Poetry (inside (codes "group") poetry))
 
 -- the table is not read, if there is one
@@ -300,48 +234,22 @@ unread_fields tool = unread_table (inside (codes "dependencies") (inside (codes 
     ++ (unread_table (inside (codes "requires") (inside (codes "metadata") (inside (codes "flit") tool)))
     ++ unread_table (inside (codes "requires-extra") (inside (codes "metadata") (inside (codes "flit") tool)))))
 
--- what uv, Rye and PDM add to groups
+-- those of the environments of Hatch, and of the group of Rye
+abbrev pub unread_environments : Option Data → List ProjectString
+unread_environments tool = unread_table (inside (codes "envs") (inside (codes "hatch") tool)) ++ unread_table (inside (codes "dev-dependencies") (inside (codes "rye") tool))
+
+-- what uv and PDM add to groups
 abbrev pub added_sources : Option Data → List ProjectString
-added_sources tool = dev_sources (codes "tool.uv.") (inside (codes "uv") tool)
-    ++ (dev_sources (codes "tool.rye.") (inside (codes "rye") tool)
-    ++ tool_groups of_tool.Pdm (inside (codes "dev-dependencies") (inside (codes "pdm") tool)))
+added_sources tool = dev_sources (inside (codes "uv") tool) ++ tool_groups of_tool.Pdm (inside (codes "dev-dependencies") (inside (codes "pdm") tool))
 
 -- the requirements of uv that hold wherever a package is asked for: its constraints, and its overrides, which replace what asks for it
 abbrev pub constraint_sources : Option Data → List ProjectString
 constraint_sources uv = array_sources (codes "tool.uv.") (codes "constraint-dependencies") Constraint (inside (codes "constraint-dependencies") uv)
     ++ array_sources (codes "tool.uv.") (codes "override-dependencies") Constraint (inside (codes "override-dependencies") uv)
 
--- these, and the environments of Hatch
-abbrev pub other_sources : Option Data → List ProjectString
-other_sources tool = constraint_sources (inside (codes "uv") tool) ++ environments_sources (inside (codes "envs") (inside (codes "hatch") tool))
-
 -- what tables of tools ask for, and which are not read
 abbrev pub tool_sources : Option Data → List ProjectString
-tool_sources tool = poetry_sources (inside (codes "poetry") tool) ++ (added_sources tool ++ (other_sources tool ++ (unread_tables tool ++ unread_fields tool)))
-
--- the value is known, and it is false
-abbrev pub is_false : Option Bool → Bool
-is_false (Some false) = true
-is_false (Some true) = false
-is_false None = false
-
--- the packages to develop with, in a Pipfile with these settings: they hold with the others, if not said otherwise ("use_default_constraints")
-abbrev pub dev_packages : Option Data → Option Data → List ProjectString
-dev_packages settings value = if is_false (option_and_then as_bool (inside (codes "use_default_constraints") settings)) then unread_table value
-    else tool_table of_entries.Pipenv (codes "dev-packages.") value
-
--- that the packages in a Pipfile are no tables
-abbrev pub pipenv_faults : Option Data → Option Data → List ProjectString
-pipenv_faults packages dev = table_fault [] (codes "packages") packages ++ table_fault [] (codes "dev-packages") dev
-
--- what they ask for
-abbrev pub pipenv_tables : Option Data → Option Data → Option Data → List ProjectString
-pipenv_tables settings packages dev = tool_table of_entries.Pipenv (codes "packages.") packages ++ dev_packages settings dev
-
--- what a Pipfile asks for ("Pipfile" of Pipenv)
-abbrev pub pipenv_sources : Members → List ProjectString
-pipenv_sources document = pipenv_faults (get_member (codes "packages") document) (get_member (codes "dev-packages") document)
-    ++ pipenv_tables (get_member (codes "pipenv") document) (get_member (codes "packages") document) (get_member (codes "dev-packages") document)
+tool_sources tool = poetry_sources (inside (codes "poetry") tool) ++ (added_sources tool ++ (constraint_sources (inside (codes "uv") tool) ++ (unread_tables tool ++ (unread_fields tool ++ unread_environments tool))))
 
 -- the strings as they are written. Those of an included group stand in that group alone
 abbrev pub written_sources : Members → List ProjectString
@@ -350,8 +258,7 @@ written_sources document = table_faults document
     ++ (dynamic_sources (get_member (codes "project") document)
     ++ (flat_map (group_sources (group_names document)) (groups_table document)
     ++ (tool_sources (get_member (codes "tool") document)
-    ++ (pipenv_sources document
-    ++ build_sources document)))))
+    ++ build_sources document))))
 
 -- the name of the project as it is written, by PEP 621 or as Poetry has it
 abbrev pub written_name : Members → Option (List ℕ)
@@ -395,7 +302,7 @@ own_section section text = section
 abbrev pub own_string : List (List ℕ) → ProjectString → ProjectString
 own_string names s = record { section = if asks_itself names s.text then own_section s.section s.text else s.section; text = s.text }
 
--- the strings of `pyproject.toml`, or of a Pipfile
+-- the strings of `pyproject.toml`
 abbrev pub sources : Members → List ProjectString
 sources document = map (own_string (own_names document)) (written_sources document)
 
@@ -404,12 +311,18 @@ abbrev pub leading_name : Option (List ℕ) → List (List ℕ)
 leading_name None = []
 leading_name (Some text) = normal (lead is_name_byte text) ∷ []
 
--- the names whose versions the project sets itself, whatever others require: of uv's overrides, which are requirements, and of PDM's table of them
+-- the names of PDM's table of overrides, and those that it leaves out of its lock ("Exclude specific packages and their dependencies from the lock
+-- file" of PDM)
+abbrev pub pdm_names : Option Data → List (List ℕ)
+pdm_names resolution =
+    entry_names (entries (inside (codes "overrides") resolution)) ++ flat_map (λ (d : Data). leading_name (as_str d)) (listed (inside (codes "excludes") resolution))
+
+-- the names whose versions the project sets itself, whatever others require: of uv's overrides, which are requirements, and those of PDM
 abbrev pub overridden_names : Members → List (List ℕ)
 overridden_names document =
     let tool : Option Data = get_member (codes "tool") document in
     flat_map (λ (d : Data). leading_name (as_str d)) (listed (inside (codes "override-dependencies") (inside (codes "uv") tool)))
-    ++ entry_names (entries (inside (codes "overrides") (inside (codes "resolution") (inside (codes "pdm") tool))))
+    ++ pdm_names (inside (codes "resolution") (inside (codes "pdm") tool))
 
 -- the document has this table of a tool
 abbrev pub has_tool : List ℕ → Members → Bool

@@ -1,4 +1,4 @@
--- Strings of requirements: their names and extras, Poetry's lists of specifiers, and conditions of Poetry's and Pipenv's entries as markers.
+-- Strings of requirements: their names and extras, Poetry's lists of specifiers, and conditions of Poetry's entries as markers.
 use Rattle.std.specs.Prelude.{ℕ, List, Bool, is_none, [], bytes_eq, codes, if◌then◌else◌, ◌&&◌, nat_lt, not, ◌++◌, Option, Some, None, ◌==◌, nat_eq, ◌||◌, count_by, ◌∷◌, map}
 use Rattle.std.specs.List.{list_any, starts_with, list_all, slice_split}
 use Rattle.std.specs.Option.{unwrap_or, option_map_or}

@@ -1,10 +1,9 @@
-//! What a project asks for: the strings of its `pyproject.toml` or Pipfile, and on which lines they stand.
+//! What a project asks for: the strings of its `pyproject.toml`, and on which lines they stand.
 //!
 //! In reading order: `table`, values of TOML; `requirement_strings`; `inclusions`, names; `project`, strings of the standards' tables;
-//! `poetry_marker`, `tool_tables` and `environments`, strings of tools; `own_extras`, all strings; and `place`, their lines.
+//! `poetry_marker` and `tool_tables`, strings of tools; `own_extras`, all strings; and `place`, their lines.
 #![tactic(auto)]
 
-mod environments;
 pub mod inclusions;
 pub mod own_extras;
 pub mod place;

@@ -165,7 +165,7 @@ fn own_strings(
     Ok(found)
 }
 
-/// The strings of `pyproject.toml` (PEP 621, PEP 735), or of a Pipfile, also in tables of tools.
+/// The strings of `pyproject.toml` (PEP 621, PEP 735), also in tables of tools.
 ///
 /// Allocates.
 pub fn project_strings(alloc: Global, document: &Table) -> Result<Vec<ProjectString>, AllocError>

@@ -4,7 +4,7 @@ ghost use Rattle.std.specs.BTreeMap.{get_by};
 ghost use Rattle.std.specs.Cmp.Lexicographic.{slice_cmp};
 ghost use Rattle.std.specs.List.{filter, prefix_len};
 ghost use Rattle.std.specs.Ordering.{nat_cmp};
-ghost use Rattle.pyver_projects.specs.ProjectStrings.{is_string_quote, others, before_next, opened_string, line_after, number_or, HasQuotedLines, known_line, number_or_one, is_key_byte, key_path, line_at, after_blanks, header_name, line_key, table_path, table_after, key_on, line_keys, document_keys, first_key, HasPlaces, key_line, own_line, section_path, first_line, string_number, header_lines, key_line_of, section_of};
+ghost use Rattle.pyver_projects.specs.ProjectStrings.{is_string_quote, others, before_next, opened_string, line_after, number_or, HasQuotedLines, is_key_byte, key_path, line_at, after_blanks, header_name, line_key, table_path, table_after, key_on, line_keys, document_keys, first_key, HasPlaces, key_line, own_line, section_path, first_line, string_number, header_lines, key_line_of, section_of};
 
 use crate::project::Section;
 use std::alloc::{AllocError, Global};
@@ -90,10 +90,8 @@ fn put_string<'a>(
     Ok(())
 }
 
-/// The lines of the strings of a document, in one pass from its end, so that the first line of a string stays.
-///
-/// Allocates.
-pub fn read_quoted_lines(alloc: Global, text: &[u8]) -> Result<QuotedLines<'_>, AllocError>
+// The lines of the strings of a document, in one pass from its end, so that the first line of a string stays.
+fn read_quoted_lines(alloc: Global, text: &[u8]) -> Result<QuotedLines<'_>, AllocError>
     ensures text { IfOk result (λ lines. lines.text.now ≡ text.now) }
     ensures lines { IfOk result HasQuotedLines }
 {
@@ -106,18 +104,6 @@ pub fn read_quoted_lines(alloc: Global, text: &[u8]) -> Result<QuotedLines<'_>, 
         put_string(&mut numbers, opened_string(&text[at..]), number)?;
     }
     Ok(QuotedLines { text, numbers })
-}
-
-/// The number of the first line on which the string stands in quotes, or 1.
-///
-/// Allocates nothing.
-pub fn line_number(lines: &QuotedLines, string: &[u8]) -> u64
-    ensures { result ≡ number_or_one (known_line lines.now string.now) }
-{
-    match lines.numbers.get(string) {
-        Some(number) => *number as u64,
-        None => 1,
-    }
 }
 
 // ---- keys
@@ -168,7 +154,7 @@ fn count_blanks(line: &[u8]) -> usize
         .count()
 }
 
-pub(crate) fn after_blanks(line: &[u8]) -> &[u8]
+fn after_blanks(line: &[u8]) -> &[u8]
     ensures { result.now ≡ after_blanks line.now }
 {
     &line[count_blanks(line)..]
@@ -350,7 +336,7 @@ fn own_line(
             let path = key_path(alloc, table.as_slice(), string)?;
             Ok(key_line(places, path.as_slice()))
         }
-        Section::Entry(_, table, name) => {
+        Section::Entry(table, name) => {
             let path = key_path(alloc, table.as_slice(), name.as_slice())?;
             Ok(key_line(places, path.as_slice()))
         }
@@ -369,9 +355,8 @@ fn section_path(section: &Section) -> &[u8]
         Section::Include(_, _) => b"dependency-groups.",
         Section::OwnExtras(_, _) => b"project.optional-dependencies.",
         Section::Invalid(table, _) => table.as_slice(),
-        Section::Entry(_, table, _) => table.as_slice(),
+        Section::Entry(table, _) => table.as_slice(),
         Section::Constraint => b"tool.uv.",
-        Section::Environment(_, table) => table.as_slice(),
         Section::Unread(_) => b"",
         Section::Build => b"build-system.requires.",
         Section::Python => b"project.requires-python.",

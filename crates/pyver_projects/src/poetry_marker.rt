@@ -1,19 +1,16 @@
-//! The conditions of an entry of Poetry or Pipenv as a marker of PEP 508.
-ghost use Rattle.std.specs.Prelude.{◌≡◌, ◌&&◌, codes, option_copied, ◌++◌, IfOk, string_bytes, ◌==◌, count_by, map, ℕ, List};
+//! The conditions of an entry of Poetry as a marker of PEP 508.
+ghost use Rattle.std.specs.Prelude.{◌≡◌, ◌&&◌, codes, option_copied, ◌++◌, IfOk, string_bytes, ◌==◌, count_by, map};
 ghost use Rattle.std.specs.List.{list_all, flat_map, slice_split};
 ghost use Rattle.pep440_version.specs.Changes.ChangeWords.{after};
 ghost use Rattle.pep440_version.specs.Grammar.{starts};
 ghost use Rattle.pep440_version.specs.Reading.{lead, past};
-ghost use Rattle.toml.specs.Data.{get};
 ghost use Rattle.toml.specs.View.{view};
 ghost use Rattle.pyver_projects.specs.ProjectStrings.{is_text_or_none};
-ghost use Rattle.pyver_projects.specs.ProjectTables.{has_conditions, condition, entry_marker, variable_comparison, with_variables};
+ghost use Rattle.pyver_projects.specs.ProjectTables.{has_conditions, condition, entry_marker};
 ghost use Rattle.pyver_projects.specs.RequirementStrings.{is_value_byte, past_blank, quoted_value, specifier_comparison, is_python_pair, python_variable, python_comparison, python_marker, platform_specifier, platform_comparison, platform_marker, both_markers};
 ghost use Rattle.pyver_requirements.specs.MarkerTerms.{joined_terms};
 ghost use Rattle.pyver_requirements.specs.MarkerTokens.{is_operator_byte};
-ghost use Rattle.pyver_projects.specs.declared.project.EntryTool.TheVariants as of_entries;
 
-use crate::project::EntryTool;
 use crate::requirement_strings::{plain_list, poetry_list, text_or_empty};
 use crate::table::{is_text_or_none, text};
 use pep440_pick::is_name_byte;
@@ -199,46 +196,13 @@ fn platform_marker(alloc: Global, platform: &str) -> Result<String, AllocError>
 
 // ---- entries
 
-const VARIABLE_NAMES: &[&str] = &[
-    "os_name",
-    "sys_platform",
-    "platform_machine",
-    "platform_python_implementation",
-    "platform_release",
-    "platform_system",
-    "platform_version",
-    "python_version",
-    "python_full_version",
-    "implementation_name",
-    "implementation_version",
-];
-
-// What the table says of each of these variables is a string, if there is something.
-fn has_texts(entry: &Value, names: &[&str]) -> bool
-    ensures { result ≡ list_all (λ (name : List ℕ). is_text_or_none (get name (view entry.now))) (map (λ n. n.now) names.now) }
-{
-    for name in names {
-        if !is_text_or_none(entry.get(*name)) {
-            return false;
-        }
-    }
-    true
-}
-
 // The conditions of a table, if it has some, are those that are read, and strings.
-pub(crate) fn has_conditions(tool: EntryTool, entry: &Value) -> bool
-    ensures { result ≡ has_conditions tool (view entry.now) }
+pub(crate) fn has_conditions(entry: &Value) -> bool
+    ensures { result ≡ has_conditions (view entry.now) }
 {
-    match tool {
-        EntryTool::Poetry => {
-            is_text_or_none(entry.get("markers"))
-                && is_text_or_none(entry.get("python"))
-                && is_text_or_none(entry.get("platform"))
-        }
-        EntryTool::Pipenv => {
-            is_text_or_none(entry.get("markers")) && has_texts(entry, VARIABLE_NAMES)
-        }
-    }
+    is_text_or_none(entry.get("markers"))
+        && is_text_or_none(entry.get("python"))
+        && is_text_or_none(entry.get("platform"))
 }
 
 // Both markers hold, where none always does.
@@ -266,71 +230,13 @@ fn condition<'a>(entry: &'a Value, key: &str) -> &'a str
     text_or_empty(text(entry.get(key)))
 }
 
-// The conditions of an entry of Poetry as one marker.
-fn poetry_marker(alloc: Global, entry: &Value) -> Result<String, AllocError>
-    ensures { IfOk result (λ marker. string_bytes marker ≡ entry_marker of_entries.Poetry (view entry.now)) }
+// The conditions of an entry as one marker.
+pub(crate) fn entry_marker(alloc: Global, entry: &Value) -> Result<String, AllocError>
+    ensures { IfOk result (λ marker. string_bytes marker ≡ entry_marker (view entry.now)) }
 {
     let pythons = poetry_list(alloc, condition(entry, "python"))?;
     let pythons = python_marker(alloc, pythons.as_str())?;
     let platform = platform_marker(alloc, condition(entry, "platform"))?;
     let installed = both_markers(alloc, pythons.as_str(), platform.as_str())?;
     both_markers(alloc, condition(entry, "markers"), installed.as_str())
-}
-
-// The variable before the comparison at its key, if there is one.
-fn variable_comparison(alloc: Global, name: &str, comparison: &str) -> Result<String, AllocError>
-    ensures { IfOk result (λ marker. string_bytes marker ≡ variable_comparison name.now comparison.now) }
-{
-    let mut marker = String::new(alloc);
-    if comparison.is_empty() {
-        return Ok(marker);
-    }
-    marker.push_str(name)?;
-    marker.push_str(" ")?;
-    marker.push_str(comparison)?;
-    Ok(marker)
-}
-
-fn with_variable(
-    alloc: Global,
-    entry: &Value,
-    marker: &str,
-    name: &str,
-) -> Result<String, AllocError>
-    ensures { IfOk result (λ both. string_bytes both ≡ both_markers marker.now (variable_comparison name.now (condition name.now (view entry.now)))) }
-{
-    let comparison = variable_comparison(alloc, name, condition(entry, name))?;
-    both_markers(alloc, marker, comparison.as_str())
-}
-
-// The marker, and after it what the table says of each of these variables.
-fn with_variables(
-    alloc: Global,
-    entry: &Value,
-    marker: &str,
-    names: &[&str],
-) -> Result<String, AllocError>
-    ensures { IfOk result (λ all. string_bytes all ≡ with_variables (view entry.now) marker.now (map (λ n. n.now) names.now)) }
-{
-    let mut all = String::from_str(alloc, marker)?;
-    for name in names {
-        all = with_variable(alloc, entry, all.as_str(), *name)?;
-    }
-    Ok(all)
-}
-
-// The conditions of an entry of the tool as one marker.
-pub(crate) fn entry_marker(
-    alloc: Global,
-    tool: EntryTool,
-    entry: &Value,
-) -> Result<String, AllocError>
-    ensures { IfOk result (λ marker. string_bytes marker ≡ entry_marker tool (view entry.now)) }
-{
-    match tool {
-        EntryTool::Poetry => poetry_marker(alloc, entry),
-        EntryTool::Pipenv => {
-            with_variables(alloc, entry, condition(entry, "markers"), VARIABLE_NAMES)
-        }
-    }
 }

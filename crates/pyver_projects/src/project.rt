@@ -10,7 +10,7 @@ ghost use Rattle.pyver_projects.specs.ProjectTables.{written_name, project_names
 use crate::inclusions::{NameIndex, group_names, table_names};
 use crate::requirement_strings::first_of;
 use crate::table::{inside, is_array_or_none, is_table_or_none, items, table, text, top};
-use crate::tool_tables::{push_pipenv, push_tools};
+use crate::tool_tables::push_tools;
 use pep440_pick::{is_name, normalize_name};
 use pyver_requirements::Cause;
 use std::alloc::{AllocError, Global};
@@ -50,14 +50,7 @@ pub fn project_name(alloc: Global, document: &Table) -> Result<Option<Vec<u8>>, 
     }
 }
 
-/// A tool with tables whose keys are names of packages.
-#[derive(Clone, Copy)]
-pub enum EntryTool {
-    Poetry,
-    Pipenv,
-}
-
-/// The part of `pyproject.toml` or a Pipfile that a string stands in. Names of extras and groups are in their normal form; the key of an entry is
+/// The part of `pyproject.toml` that a string stands in. Names of extras and groups are in their normal form; the key of an entry is
 /// as it is written.
 #[derive(Drop)]
 pub enum Section {
@@ -65,7 +58,7 @@ pub enum Section {
     Dependencies,
     /// In `project.optional-dependencies`, in the array of this extra.
     Extra(Vec<u8>),
-    /// In the array of this group: in `dependency-groups` (PEP 735), or in `dev-dependencies` of `tool.uv`, `tool.rye` (both `dev`) or `tool.pdm`.
+    /// In the array of this group: in `dependency-groups` (PEP 735), or in `dev-dependencies` of `tool.uv` (`dev`) or `tool.pdm`.
     Group(Vec<u8>),
     /// There, as the name of a group that is included: this group includes that one.
     Include(Vec<u8>, Vec<u8>),
@@ -73,12 +66,10 @@ pub enum Section {
     OwnExtras(Option<Vec<u8>>, Vec<Vec<u8>>),
     /// As the name of a value in the table with this path that is invalid for this reason.
     Invalid(Vec<u8>, &'static str),
-    /// As what this key of the tool's table with this path asks for.
-    Entry(EntryTool, Vec<u8>, Vec<u8>),
+    /// As what this key of Poetry's table with this path asks for.
+    Entry(Vec<u8>, Vec<u8>),
     /// In uv's `constraint-dependencies` or `override-dependencies`.
     Constraint,
-    /// In an environment of Hatch, in which the project is installed or not, and whose table has this path.
-    Environment(bool, Vec<u8>),
     /// As what is not read for this cause.
     Unread(Cause),
     /// In `build-system.requires`.
@@ -133,13 +124,8 @@ impl Clone for Section {
                 Ok(Section::OwnExtras(copy_name(asker)?, copy_names(extras)?))
             }
             Section::Invalid(table, reason) => Ok(Section::Invalid(table.clone()?, *reason)),
-            Section::Entry(tool, table, name) => {
-                Ok(Section::Entry(*tool, table.clone()?, name.clone()?))
-            }
+            Section::Entry(table, name) => Ok(Section::Entry(table.clone()?, name.clone()?)),
             Section::Constraint => Ok(Section::Constraint),
-            Section::Environment(is_installed, table) => {
-                Ok(Section::Environment(*is_installed, table.clone()?))
-            }
             Section::Unread(cause) => Ok(Section::Unread(*cause)),
             Section::Build => Ok(Section::Build),
             Section::Python => Ok(Section::Python),
@@ -162,7 +148,7 @@ pub(crate) fn push_string(
 }
 
 // Adds the name of a value in the table with this path, which is invalid for this reason.
-pub(crate) fn push_invalid(
+fn push_invalid(
     alloc: Global,
     sources: &mut Vec<ProjectString>,
     table: &[u8],
@@ -540,7 +526,7 @@ fn push_all_groups(
 }
 
 // Adds the name, if the value is no table.
-pub(crate) fn push_table_fault(
+fn push_table_fault(
     alloc: Global,
     sources: &mut Vec<ProjectString>,
     table: &'static str,
@@ -715,7 +701,7 @@ fn push_build(
     )
 }
 
-// The strings of `pyproject.toml`, or of a Pipfile, as they are written.
+// The strings of `pyproject.toml` as they are written.
 pub(crate) fn written_strings(
     alloc: Global,
     document: &Table,
@@ -728,7 +714,6 @@ pub(crate) fn written_strings(
     push_dynamic(alloc, &mut found, top(document, "project"))?;
     push_all_groups(alloc, &mut found, document)?;
     push_tools(alloc, &mut found, top(document, "tool"))?;
-    push_pipenv(alloc, &mut found, document)?;
     push_build(alloc, &mut found, document)?;
     Ok(found)
 }

@@ -1,36 +1,33 @@
-//! What tables of tools in `pyproject.toml` ask for, or a Pipfile, and what they override.
-ghost use Rattle.std.specs.Prelude.{◌≡◌, option_map, IfOk, string_bytes, ◌++◌, map, Some, codes, option_and_then};
+//! What tables of tools in `pyproject.toml` ask for, and what they override.
+ghost use Rattle.std.specs.Prelude.{◌≡◌, option_map, IfOk, string_bytes, ◌++◌, map, Some, codes};
 ghost use Rattle.std.specs.List.{flat_map, list_any};
 ghost use Rattle.pep440_pick.specs.Names.{normal};
 ghost use Rattle.pep440_rs.specs.Blanks.{opens};
-ghost use Rattle.toml.specs.Data.{as_bool, Data, as_str};
+ghost use Rattle.toml.specs.Data.{Data, as_str};
 ghost use Rattle.toml.specs.View.{view, table_view};
 ghost use Rattle.pyver_projects.specs.ProjectStrings.{Entry, members_list, listed, key_path, Group, inside, entries, section_of, project_string_of};
-ghost use Rattle.pyver_projects.specs.ProjectTables.{table_list, entry_list, pipenv_list, entry_specifiers, is_package_name, unread, listed_source, entry_source, each_source, is_entry, sources_or_fault, entry_sources, tool_table, is_editable, group_path, tool_group, array_sources, tool_groups, poetry_sources, dev_sources, unread_table, unread_tables, unread_fields, added_sources, constraint_sources, other_sources, tool_sources, is_false, dev_packages, pipenv_faults, pipenv_tables, pipenv_sources, leading_name, entry_names, overridden_names};
+ghost use Rattle.pyver_projects.specs.ProjectTables.{table_list, entry_list, is_package_name, unread, listed_source, entry_source, each_source, entry_sources, tool_table, is_editable, group_path, tool_group, array_sources, tool_groups, poetry_sources, dev_sources, unread_table, unread_tables, unread_fields, unread_environments, added_sources, constraint_sources, tool_sources, leading_name, entry_names, pdm_names, overridden_names};
 ghost use Rattle.pyver_projects.specs.RequirementStrings.{marked_text};
 ghost use Rattle.pyver_projects.specs.declared.tool_tables.GroupTool.TheVariants as of_tool;
 
-use crate::environments::push_environments;
 use crate::inclusions::table_names;
-use crate::place::{after_blanks, key_path};
+use crate::place::key_path;
 use crate::poetry_marker::{entry_marker, has_conditions};
-use crate::project::{
-    EntryTool, ProjectString, Section, push_array, push_invalid, push_string, push_table_fault,
-};
-use crate::requirement_strings::{name_with_extras, plain_list, poetry_list, requirement_text};
+use crate::project::{ProjectString, Section, push_array, push_string};
+use crate::requirement_strings::{name_with_extras, poetry_list, requirement_text};
 use crate::table::{inside, items, listed_strings, table, text, top};
 use pep440_pick::{is_name, normalize_name, split_name};
-use pyver_requirements::{Cause, starts_with_operator};
+use pyver_requirements::Cause;
 use std::alloc::{AllocError, Global};
 use toml::{Table, Value};
 
-// ---- tables of Poetry and Pipenv
+// ---- tables of Poetry
 
 // The list of a table, or `*`.
-fn table_list(tool: EntryTool, entry: &Value) -> Option<&str>
-    ensures { option_map (λ t. t.now) result ≡ table_list tool (view entry.now) }
+fn table_list(entry: &Value) -> Option<&str>
+    ensures { option_map (λ t. t.now) result ≡ table_list (view entry.now) }
 {
-    if !has_conditions(tool, entry) {
+    if !has_conditions(entry) {
         return None;
     }
     match text(entry.get("version")) {
@@ -40,37 +37,15 @@ fn table_list(tool: EntryTool, entry: &Value) -> Option<&str>
 }
 
 // The list of an entry: a string, or a table.
-fn entry_list(tool: EntryTool, entry: &Value) -> Option<&str>
-    ensures { option_map (λ t. t.now) result ≡ entry_list tool (view entry.now) }
+fn entry_list(entry: &Value) -> Option<&str>
+    ensures { option_map (λ t. t.now) result ≡ entry_list (view entry.now) }
 {
     if let Some(list) = entry.as_str() {
         return Some(list);
     }
     match entry.as_table() {
-        Some(_) => table_list(tool, entry),
+        Some(_) => table_list(entry),
         None => None,
-    }
-}
-
-// A list of Pipenv, in which a version by itself is this one.
-fn pipenv_list(alloc: Global, list: &str) -> Result<String, AllocError>
-    ensures { IfOk result (λ text. string_bytes text ≡ pipenv_list list.now) }
-{
-    if starts_with_operator(after_blanks(list.as_bytes())) || list.is_empty() {
-        return String::from_str(alloc, list);
-    }
-    let mut text = String::from_str(alloc, "==")?;
-    text.push_str(list)?;
-    Ok(text)
-}
-
-// The list as one of PEP 440.
-fn entry_specifiers(alloc: Global, tool: EntryTool, list: &str) -> Result<String, AllocError>
-    ensures { IfOk result (λ text. string_bytes text ≡ entry_specifiers tool list.now) }
-{
-    match tool {
-        EntryTool::Poetry => poetry_list(alloc, list),
-        EntryTool::Pipenv => pipenv_list(alloc, plain_list(list)),
     }
 }
 
@@ -80,17 +55,12 @@ fn is_package_name(name: &str) -> bool
     is_name(name) && name != "python"
 }
 
-fn entry_section(
-    alloc: Global,
-    tool: EntryTool,
-    table: &[u8],
-    name: &str,
-) -> Result<Section, AllocError>
-    ensures { IfOk result (λ section. section_of section ≡ Entry tool table.now name.now) }
+fn entry_section(alloc: Global, table: &[u8], name: &str) -> Result<Section, AllocError>
+    ensures { IfOk result (λ section. section_of section ≡ Entry table.now name.now) }
 {
     let table = Vec::from_slice(alloc, table)?;
     let name = Vec::from_slice(alloc, name.as_bytes())?;
-    Ok(Section::Entry(tool, table, name))
+    Ok(Section::Entry(table, name))
 }
 
 // Adds that it is not read for this cause.
@@ -120,62 +90,58 @@ fn marked_text(requirement: String, marker: &str) -> Result<String, AllocError>
 fn push_listed(
     alloc: Global,
     sources: &mut Vec<ProjectString>,
-    tool: EntryTool,
     table: &[u8],
     name: &str,
     extras: &[String],
     marker: &str,
     list: Option<&str>,
 ) -> Result<(), AllocError>
-    ensures { IfOk result (λ _. map project_string_of sources.new.items ≡ map project_string_of sources.old.items ++ listed_source tool table.now name.now (map string_bytes extras.now) marker.now (option_map (λ t. t.now) list.entry)) }
+    ensures { IfOk result (λ _. map project_string_of sources.new.items ≡ map project_string_of sources.old.items ++ listed_source table.now name.now (map string_bytes extras.now) marker.now (option_map (λ t. t.now) list.entry)) }
 {
     let Some(list) = list else {
         return push_unread(alloc, sources, Cause::OtherSyntax);
     };
-    let list = entry_specifiers(alloc, tool, list)?;
+    let list = poetry_list(alloc, list)?;
     let full_name = name_with_extras(alloc, name, extras)?;
     let text = requirement_text(alloc, full_name.as_str(), list.as_str())?;
     let text = marked_text(text, marker)?;
-    let section = entry_section(alloc, tool, table, name)?;
+    let section = entry_section(alloc, table, name)?;
     push_string(alloc, sources, section, text.as_str())
 }
 
 fn push_entry(
     alloc: Global,
     sources: &mut Vec<ProjectString>,
-    tool: EntryTool,
     table: &[u8],
     name: &str,
     entry: &Value,
 ) -> Result<(), AllocError>
-    ensures { IfOk result (λ _. map project_string_of sources.new.items ≡ map project_string_of sources.old.items ++ entry_source tool table.now name.now (view entry.now)) }
+    ensures { IfOk result (λ _. map project_string_of sources.new.items ≡ map project_string_of sources.old.items ++ entry_source table.now name.now (view entry.now)) }
 {
     let extras = listed_strings(alloc, entry.get("extras"))?;
-    let marker = entry_marker(alloc, tool, entry)?;
+    let marker = entry_marker(alloc, entry)?;
     push_listed(
         alloc,
         sources,
-        tool,
         table,
         name,
         extras.as_slice(),
         marker.as_str(),
-        entry_list(tool, entry),
+        entry_list(entry),
     )
 }
 
 fn push_items(
     alloc: Global,
     sources: &mut Vec<ProjectString>,
-    tool: EntryTool,
     table: &[u8],
     name: &str,
     found: &[Value],
 ) -> Result<(), AllocError>
-    ensures { IfOk result (λ _. map project_string_of sources.new.items ≡ map project_string_of sources.old.items ++ flat_map (entry_source tool table.now name.now) (map view found.now)) }
+    ensures { IfOk result (λ _. map project_string_of sources.new.items ≡ map project_string_of sources.old.items ++ flat_map (entry_source table.now name.now) (map view found.now)) }
 {
     for entry in found {
-        push_entry(alloc, sources, tool, table, name, entry)?;
+        push_entry(alloc, sources, table, name, entry)?;
     }
     Ok(())
 }
@@ -184,45 +150,16 @@ fn push_items(
 fn push_each(
     alloc: Global,
     sources: &mut Vec<ProjectString>,
-    tool: EntryTool,
     table: &[u8],
     name: &str,
     value: &Value,
 ) -> Result<(), AllocError>
-    ensures { IfOk result (λ _. map project_string_of sources.new.items ≡ map project_string_of sources.old.items ++ each_source tool table.now name.now (view value.now)) }
+    ensures { IfOk result (λ _. map project_string_of sources.new.items ≡ map project_string_of sources.old.items ++ each_source table.now name.now (view value.now)) }
 {
     if value.as_array().is_some() {
-        return push_items(alloc, sources, tool, table, name, items(Some(value)));
+        return push_items(alloc, sources, table, name, items(Some(value)));
     }
-    push_entry(alloc, sources, tool, table, name, value)
-}
-
-// An entry of Pipenv is a string or a table.
-fn is_entry(tool: EntryTool, entry: &Value) -> bool
-    ensures { result ≡ is_entry tool (view entry.now) }
-{
-    match tool {
-        EntryTool::Poetry => true,
-        EntryTool::Pipenv => entry.as_str().is_some() || entry.as_table().is_some(),
-    }
-}
-
-// Adds what the entry asks for, or that it is none.
-fn push_entries_or_fault(
-    alloc: Global,
-    sources: &mut Vec<ProjectString>,
-    tool: EntryTool,
-    table: &[u8],
-    name: &str,
-    value: &Value,
-) -> Result<(), AllocError>
-    ensures { IfOk result (λ _. map project_string_of sources.new.items ≡ map project_string_of sources.old.items ++ sources_or_fault tool table.now name.now (view value.now)) }
-{
-    if is_entry(tool, value) {
-        return push_each(alloc, sources, tool, table, name, value);
-    }
-    let reason = "neither a string nor a table";
-    push_invalid(alloc, sources, table, name, reason)
+    push_entry(alloc, sources, table, name, value)
 }
 
 // Adds what the entry asks for.
@@ -230,30 +167,28 @@ fn push_entries_or_fault(
 fn push_named(
     alloc: Global,
     sources: &mut Vec<ProjectString>,
-    tool: EntryTool,
     table: &[u8],
     name: &String,
     value: &Value,
 ) -> Result<(), AllocError>
-    ensures { IfOk result (λ _. map project_string_of sources.new.items ≡ map project_string_of sources.old.items ++ entry_sources tool table.now (string_bytes name.now, view value.now)) }
+    ensures { IfOk result (λ _. map project_string_of sources.new.items ≡ map project_string_of sources.old.items ++ entry_sources table.now (string_bytes name.now, view value.now)) }
 {
     if !is_package_name(name.as_str()) {
         return Ok(());
     }
-    push_entries_or_fault(alloc, sources, tool, table, name.as_str(), value)
+    push_each(alloc, sources, table, name.as_str(), value)
 }
 
 fn push_entries(
     alloc: Global,
     sources: &mut Vec<ProjectString>,
-    tool: EntryTool,
     path: &[u8],
     found: &Table,
 ) -> Result<(), AllocError>
-    ensures { IfOk result (λ _. map project_string_of sources.new.items ≡ map project_string_of sources.old.items ++ flat_map (entry_sources tool path.now) (members_list (table_view found.now))) }
+    ensures { IfOk result (λ _. map project_string_of sources.new.items ≡ map project_string_of sources.old.items ++ flat_map (entry_sources path.now) (members_list (table_view found.now))) }
 {
     for (name, entry) in found.iter() {
-        push_named(alloc, sources, tool, path, name, entry)?;
+        push_named(alloc, sources, path, name, entry)?;
     }
     Ok(())
 }
@@ -262,14 +197,13 @@ fn push_entries(
 fn push_tool_table(
     alloc: Global,
     sources: &mut Vec<ProjectString>,
-    tool: EntryTool,
     path: &[u8],
     value: Option<&Value>,
 ) -> Result<(), AllocError>
-    ensures { IfOk result (λ _. map project_string_of sources.new.items ≡ map project_string_of sources.old.items ++ tool_table tool path.now (option_map (λ v. view v.now) value.entry)) }
+    ensures { IfOk result (λ _. map project_string_of sources.new.items ≡ map project_string_of sources.old.items ++ tool_table path.now (option_map (λ v. view v.now) value.entry)) }
 {
     match table(value) {
-        Some(found) => push_entries(alloc, sources, tool, path, found),
+        Some(found) => push_entries(alloc, sources, path, found),
         None => Ok(()),
     }
 }
@@ -342,7 +276,7 @@ fn push_poetry_group(
 {
     let path = group_path(alloc, name)?;
     let value = group.get("dependencies");
-    push_tool_table(alloc, sources, EntryTool::Poetry, path.as_slice(), value)
+    push_tool_table(alloc, sources, path.as_slice(), value)
 }
 
 // Adds the requirements of a group of PDM.
@@ -433,45 +367,31 @@ fn push_poetry(
 ) -> Result<(), AllocError>
     ensures { IfOk result (λ _. map project_string_of sources.new.items ≡ map project_string_of sources.old.items ++ poetry_sources (option_map (λ v. view v.now) poetry.entry)) }
 {
-    let tool = EntryTool::Poetry;
     let path = b"tool.poetry.dependencies.";
-    push_tool_table(alloc, sources, tool, path, inside(poetry, "dependencies"))?;
+    push_tool_table(alloc, sources, path, inside(poetry, "dependencies"))?;
     let path = b"tool.poetry.dev-dependencies.";
-    let value = inside(poetry, "dev-dependencies");
-    push_tool_table(alloc, sources, tool, path, value)?;
+    push_tool_table(alloc, sources, path, inside(poetry, "dev-dependencies"))?;
     push_groups(alloc, sources, GroupTool::Poetry, inside(poetry, "group"))
 }
 
-// The name of the group to which uv and Rye add.
+// The name of the group to which uv adds.
 fn dev_name(alloc: Global) -> Result<Vec<u8>, AllocError>
     ensures { IfOk result (λ name. name.items ≡ codes "dev") }
 {
     Vec::from_slice(alloc, b"dev")
 }
 
-// Adds the requirements of an array that is for the group `dev`.
-fn push_dev_array(
-    alloc: Global,
-    sources: &mut Vec<ProjectString>,
-    table: &'static str,
-    value: Option<&Value>,
-) -> Result<(), AllocError>
-    ensures { IfOk result (λ _. map project_string_of sources.new.items ≡ map project_string_of sources.old.items ++ array_sources table.now (codes "dev-dependencies") (Group (codes "dev")) (option_map (λ v. view v.now) value.entry)) }
-{
-    let section = Section::Group(dev_name(alloc)?);
-    push_array(alloc, sources, table, "dev-dependencies", &section, value)
-}
-
-// Adds what the tool, whose table has this path, adds to the group `dev`.
+// Adds what uv adds to the group `dev`.
 fn push_dev(
     alloc: Global,
     sources: &mut Vec<ProjectString>,
-    table: &'static str,
-    tool: Option<&Value>,
+    uv: Option<&Value>,
 ) -> Result<(), AllocError>
-    ensures { IfOk result (λ _. map project_string_of sources.new.items ≡ map project_string_of sources.old.items ++ dev_sources table.now (option_map (λ v. view v.now) tool.entry)) }
+    ensures { IfOk result (λ _. map project_string_of sources.new.items ≡ map project_string_of sources.old.items ++ dev_sources (option_map (λ v. view v.now) uv.entry)) }
 {
-    push_dev_array(alloc, sources, table, inside(tool, "dev-dependencies"))
+    let name = "dev-dependencies";
+    let section = Section::Group(dev_name(alloc)?);
+    push_array(alloc, sources, "tool.uv.", name, &section, inside(uv, name))
 }
 
 // ---- tables that are not read
@@ -518,9 +438,25 @@ fn push_unread_fields(
     push_unread_table(alloc, sources, inside(flit, "requires-extra"))
 }
 
+// Adds those of Hatch and Rye.
+fn push_unread_environments(
+    alloc: Global,
+    sources: &mut Vec<ProjectString>,
+    tool: Option<&Value>,
+) -> Result<(), AllocError>
+    ensures { IfOk result (λ _. map project_string_of sources.new.items ≡ map project_string_of sources.old.items ++ unread_environments (option_map (λ v. view v.now) tool.entry)) }
+{
+    push_unread_table(alloc, sources, inside(inside(tool, "hatch"), "envs"))?;
+    push_unread_table(
+        alloc,
+        sources,
+        inside(inside(tool, "rye"), "dev-dependencies"),
+    )
+}
+
 // ---- all tables
 
-// Adds what uv, Rye and PDM add to groups.
+// Adds what uv and PDM add to groups.
 fn push_additions(
     alloc: Global,
     sources: &mut Vec<ProjectString>,
@@ -528,8 +464,7 @@ fn push_additions(
 ) -> Result<(), AllocError>
     ensures { IfOk result (λ _. map project_string_of sources.new.items ≡ map project_string_of sources.old.items ++ added_sources (option_map (λ v. view v.now) tool.entry)) }
 {
-    push_dev(alloc, sources, "tool.uv.", inside(tool, "uv"))?;
-    push_dev(alloc, sources, "tool.rye.", inside(tool, "rye"))?;
+    push_dev(alloc, sources, inside(tool, "uv"))?;
     let pdm = inside(inside(tool, "pdm"), "dev-dependencies");
     push_groups(alloc, sources, GroupTool::Pdm, pdm)
 }
@@ -549,28 +484,17 @@ fn push_constraints(
     push_array(alloc, sources, "tool.uv.", name, &section, inside(uv, name))
 }
 
-// Adds these, and the environments of Hatch.
-fn push_others(
-    alloc: Global,
-    sources: &mut Vec<ProjectString>,
-    tool: Option<&Value>,
-) -> Result<(), AllocError>
-    ensures { IfOk result (λ _. map project_string_of sources.new.items ≡ map project_string_of sources.old.items ++ other_sources (option_map (λ v. view v.now) tool.entry)) }
-{
-    push_constraints(alloc, sources, inside(tool, "uv"))?;
-    push_environments(alloc, sources, inside(inside(tool, "hatch"), "envs"))
-}
-
 // Adds which tables are not read.
 fn push_all_unread(
     alloc: Global,
     sources: &mut Vec<ProjectString>,
     tool: Option<&Value>,
 ) -> Result<(), AllocError>
-    ensures { IfOk result (λ _. map project_string_of sources.new.items ≡ map project_string_of sources.old.items ++ (unread_tables (option_map (λ v. view v.now) tool.entry) ++ unread_fields (option_map (λ v. view v.now) tool.entry))) }
+    ensures { IfOk result (λ _. map project_string_of sources.new.items ≡ map project_string_of sources.old.items ++ (unread_tables (option_map (λ v. view v.now) tool.entry) ++ (unread_fields (option_map (λ v. view v.now) tool.entry) ++ unread_environments (option_map (λ v. view v.now) tool.entry)))) }
 {
     push_unread_tables(alloc, sources, tool)?;
-    push_unread_fields(alloc, sources, tool)
+    push_unread_fields(alloc, sources, tool)?;
+    push_unread_environments(alloc, sources, tool)
 }
 
 // Adds what tables of tools ask for, and which are not read.
@@ -583,77 +507,8 @@ pub(crate) fn push_tools(
 {
     push_poetry(alloc, sources, inside(tool, "poetry"))?;
     push_additions(alloc, sources, tool)?;
-    push_others(alloc, sources, tool)?;
+    push_constraints(alloc, sources, inside(tool, "uv"))?;
     push_all_unread(alloc, sources, tool)
-}
-
-// ---- a Pipfile
-
-// The settings of a Pipfile let its packages to develop with hold by themselves.
-fn is_apart(settings: Option<&Value>) -> bool
-    ensures { result ≡ is_false (option_and_then as_bool (inside (codes "use_default_constraints") (option_map (λ v. view v.now) settings.entry))) }
-{
-    match inside(settings, "use_default_constraints") {
-        Some(value) => value.as_bool() == Some(false),
-        None => false,
-    }
-}
-
-// Adds the packages to develop with, in a Pipfile with these settings.
-fn push_dev_packages(
-    alloc: Global,
-    sources: &mut Vec<ProjectString>,
-    settings: Option<&Value>,
-    value: Option<&Value>,
-) -> Result<(), AllocError>
-    ensures { IfOk result (λ _. map project_string_of sources.new.items ≡ map project_string_of sources.old.items ++ dev_packages (option_map (λ v. view v.now) settings.entry) (option_map (λ v. view v.now) value.entry)) }
-{
-    if is_apart(settings) {
-        return push_unread_table(alloc, sources, value);
-    }
-    push_tool_table(alloc, sources, EntryTool::Pipenv, b"dev-packages.", value)
-}
-
-// Adds the names of these two values of a Pipfile, if they are no tables.
-fn push_pipenv_faults(
-    alloc: Global,
-    sources: &mut Vec<ProjectString>,
-    packages: Option<&Value>,
-    dev_packages: Option<&Value>,
-) -> Result<(), AllocError>
-    ensures { IfOk result (λ _. map project_string_of sources.new.items ≡ map project_string_of sources.old.items ++ pipenv_faults (option_map (λ v. view v.now) packages.entry) (option_map (λ v. view v.now) dev_packages.entry)) }
-{
-    push_table_fault(alloc, sources, "", "packages", packages)?;
-    push_table_fault(alloc, sources, "", "dev-packages", dev_packages)
-}
-
-// Adds what its packages ask for.
-fn push_pipenv_tables(
-    alloc: Global,
-    sources: &mut Vec<ProjectString>,
-    settings: Option<&Value>,
-    packages: Option<&Value>,
-    dev_packages: Option<&Value>,
-) -> Result<(), AllocError>
-    ensures { IfOk result (λ _. map project_string_of sources.new.items ≡ map project_string_of sources.old.items ++ pipenv_tables (option_map (λ v. view v.now) settings.entry) (option_map (λ v. view v.now) packages.entry) (option_map (λ v. view v.now) dev_packages.entry)) }
-{
-    push_tool_table(alloc, sources, EntryTool::Pipenv, b"packages.", packages)?;
-    push_dev_packages(alloc, sources, settings, dev_packages)
-}
-
-// Adds what a Pipfile asks for.
-pub(crate) fn push_pipenv(
-    alloc: Global,
-    sources: &mut Vec<ProjectString>,
-    document: &Table,
-) -> Result<(), AllocError>
-    ensures { IfOk result (λ _. map project_string_of sources.new.items ≡ map project_string_of sources.old.items ++ pipenv_sources (table_view document.now)) }
-{
-    let packages = top(document, "packages");
-    let development = top(document, "dev-packages");
-    let settings = top(document, "pipenv");
-    push_pipenv_faults(alloc, sources, packages, development)?;
-    push_pipenv_tables(alloc, sources, settings, packages, development)
 }
 
 // ---- overrides
@@ -696,8 +551,17 @@ pub(crate) fn names_in(alloc: Global, value: Option<&Value>) -> Result<Vec<Vec<u
     }
 }
 
+// The names that PDM overrides, then those that it leaves out.
+fn pdm_names(alloc: Global, resolution: Option<&Value>) -> Result<Vec<Vec<u8>>, AllocError>
+    ensures { IfOk result (λ names. map (λ n. n.items) names.items ≡ pdm_names (option_map (λ v. view v.now) resolution.entry)) }
+{
+    let mut names = names_in(alloc, inside(resolution, "overrides"))?;
+    push_leading_names(alloc, &mut names, items(inside(resolution, "excludes")))?;
+    Ok(names)
+}
+
 /// The names whose versions the project sets itself, in their normal form: those with which strings of `tool.uv.override-dependencies` begin,
-/// then the keys of `tool.pdm.resolution.overrides`.
+/// then the keys of `tool.pdm.resolution.overrides`, then those with which strings of `tool.pdm.resolution.excludes` begin.
 ///
 /// Allocates.
 #[tactic(auto, using(crate::proofs::Walks::joined_views))]
@@ -706,10 +570,9 @@ pub fn overridden_names(alloc: Global, document: &Table) -> Result<Vec<Vec<u8>>,
 {
     let tool = top(document, "tool");
     let of_uv = inside(inside(tool, "uv"), "override-dependencies");
-    let of_pdm = inside(inside(inside(tool, "pdm"), "resolution"), "overrides");
     let mut names = Vec::new(alloc);
     push_leading_names(alloc, &mut names, items(of_uv))?;
-    let mut more = names_in(alloc, of_pdm)?;
+    let mut more = pdm_names(alloc, inside(inside(tool, "pdm"), "resolution"))?;
     names.append(&mut more)?;
     Ok(names)
 }

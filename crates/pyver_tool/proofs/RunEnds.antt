@@ -37,7 +37,6 @@ use Rattle.pyver_commands.specs.declared.sources.open_failure.OpenFailure.{OpenF
 use Rattle.pyver_tool.specs.declared.requirement_files.RequirementFiles.{RequirementFiles}
 use Rattle.pyver_findings.specs.FileLines.{File}
 use Rattle.pyver_findings.specs.NamedFiles.{NamedFile, named_files}
-use Rattle.pyver_documents.specs.Meanings.{Document}
 use Rattle.pyver_findings.specs.Views.{named_file_of}
 use Rattle.pyver_findings.specs.ReportTexts.{summary_text}
 use Rattle.pyver_findings.specs.Reports.{Report, joined_report, without_ignored}
@@ -66,7 +65,6 @@ use Rattle.pyver_commands.specs.Matches.{Matches, MatchesBy, MatchesWord, Matche
 use Rattle.pyver_commands.specs.NewestOutcomes.{FindsNewest, FindsNewestBy, FindsNewestLine, newest_outcome, newest_rule, taken}
 use Rattle.pyver_findings.specs.FindingLaws.{IsUndecided, without_environments}
 use Rattle.pyver_findings.proofs.Complete.{ignored_alike, joined_alike, reports_once}
-use Rattle.pyver_documents.proofs.ExportsFound.{export_reports_once}
 use Rattle.pyver_documents.proofs.Once.{document_reports_once}
 use Rattle.pyver_commands.specs.Outcomes.{in_turn}
 use Rattle.pyver_commands.specs.Readings.{Reading, Reads, Denotes, Fails}
@@ -682,34 +680,25 @@ outcomes_once (Check options names) input a b few h k = absurd h
 outcomes_once (Misused message) input a b few h k = h ∙ sym k
 
 -- what is undecided in the report of the lines is so in that of all files
-still_undecided : (unopened : List UnopenedFile) (a b : CheckResult) (q d t : Report) → b ≡ with_report unopened a (without_ignored (joined_report (joined_report q d) t)) → IsUndecided q → IsUndecided b.report
-still_undecided unopened a b q d t is found =
-    subst (λ (c : CheckResult). IsUndecided c.report) (sym is)
-    (Contains-append_right a.report.left_out ((q.left_out ++ d.left_out) ++ t.left_out) _
-    (Contains-append_left (q.left_out ++ d.left_out) t.left_out _ (Contains-append_left q.left_out d.left_out _ found)))
+still_undecided : (unopened : List UnopenedFile) (a b : CheckResult) (q d : Report) → b ≡ with_report unopened a (without_ignored (joined_report q d)) → IsUndecided q → IsUndecided b.report
+still_undecided unopened a b q d is found =
+    subst (λ (c : CheckResult). IsUndecided c.report) (sym is) (Contains-append_right a.report.left_out (q.left_out ++ d.left_out) _ (Contains-append_left q.left_out d.left_out _ found))
 
 -- and so is what is undecided in that of the documents
-undecided_there : (unopened : List UnopenedFile) (a b : CheckResult) (q d t : Report) → b ≡ with_report unopened a (without_ignored (joined_report (joined_report q d) t)) → IsUndecided d → IsUndecided b.report
-undecided_there unopened a b q d t is found =
-    subst (λ (c : CheckResult). IsUndecided c.report) (sym is)
-    (Contains-append_right a.report.left_out ((q.left_out ++ d.left_out) ++ t.left_out) _
-    (Contains-append_left (q.left_out ++ d.left_out) t.left_out _ (Contains-append_right q.left_out d.left_out _ found)))
-
--- three reports as one, without environments
-all_alike : (q d t : Report) → without_environments (joined_report (joined_report q d) t) ≡ joined_report (joined_report (without_environments q) (without_environments d)) (without_environments t)
-all_alike q d t = joined_alike (joined_report q d) t ∙ ap (λ (r : Report). joined_report r (without_environments t)) (joined_alike q d)
+undecided_there : (unopened : List UnopenedFile) (a b : CheckResult) (q d : Report) → b ≡ with_report unopened a (without_ignored (joined_report q d)) → IsUndecided d → IsUndecided b.report
+undecided_there unopened a b q d is found =
+    subst (λ (c : CheckResult). IsUndecided c.report) (sym is) (Contains-append_right a.report.left_out (q.left_out ++ d.left_out) _ (Contains-append_right q.left_out d.left_out _ found))
 
 pub checks_once : ChecksOnce
 unfolding ChecksOnce
-checks_once read a b c readable (q, d, t, hq, hd, ht, is) (p, e, u, hp, he, hu, so) decided also =
-    let of_lines = reports_once read.requirements q p hq hp (λ found. decided (still_undecided read.unopened a b q d t is found)) (λ found. also (still_undecided read.unopened a c p e u so found)) in
-    let of_documents = document_reports_once read.documents d e readable hd he (λ found. decided (undecided_there read.unopened a b q d t is found)) (λ found. also (undecided_there read.unopened a c p e u so found)) in
-    let of_exports : t ≡ u = export_reports_once read.requirements read.documents t u readable ht hu in
-    let one = joined_report (joined_report q d) t in
-    let other = joined_report (joined_report p e) u in
+checks_once read a b c readable (q, d, hq, hd, is) (p, e, hp, he, so) decided also =
+    let of_lines = reports_once read.requirements q p hq hp (λ found. decided (still_undecided read.unopened a b q d is found)) (λ found. also (still_undecided read.unopened a c p e so found)) in
+    let of_documents = document_reports_once read.documents d e readable hd he (λ found. decided (undecided_there read.unopened a b q d is found)) (λ found. also (undecided_there read.unopened a c p e so found)) in
+    let one = joined_report q d in
+    let other = joined_report p e in
     let found : without_environments (without_ignored one) ≡ without_environments (without_ignored other) =
     ignored_alike one
-    ∙ ap without_ignored (all_alike q d t ∙ (λ j. joined_report (joined_report (of_lines j) (of_documents j)) (without_environments (of_exports j))) ∙ sym (all_alike p e u))
+    ∙ ap without_ignored (joined_alike q d ∙ (λ j. joined_report (of_lines j) (of_documents j)) ∙ sym (joined_alike p e))
     ∙ sym (ignored_alike other) in (
       ap (λ (c : CheckResult). without_environments c.report) is ∙ joined_alike a.report (without_ignored one)
           ∙ ap (joined_report (without_environments a.report)) found

@@ -14,7 +14,7 @@ use Rattle.pyver_findings.specs.FileLines.{Finding}
 use Rattle.pyver_findings.specs.NamedFiles.{Position}
 use Rattle.pyver_findings.specs.ReportTexts.{summary_text}
 use Rattle.pyver_findings.specs.Reports.{IsReport, Report, empty_report, joined_report, spans_files, without_ignored}
-use Rattle.pyver_documents.specs.Comparing.{IsDocumentsReport, IsExportsReport}
+use Rattle.pyver_documents.specs.Comparing.{IsDocumentsReport}
 
 -- ---- what is found
 
@@ -34,10 +34,10 @@ word_groups each words = if each then map (λ word. word ∷ []) (source_names w
 abbrev pub with_report : List UnopenedFile → CheckResult → Report → CheckResult
 with_report unopened a r = record { report = joined_report a.report r; unopened = a.unopened ++ unopened }
 
--- the report of these files follows, without what comments ignore: of all requirements files together, of all documents, and of exports beside these
+-- the report of these files follows, without what comments ignore: of all requirements files together, and of all documents
 abbrev pub GainsReport : FilesRead → CheckResult → CheckResult → Type 0
-GainsReport read a b = (r : Report) × (s : Report) × (t : Report) × IsReport read.requirements r × IsDocumentsReport read.documents s × IsExportsReport read.requirements read.documents t
-    × (b ≡ with_report read.unopened a (without_ignored (joined_report (joined_report r s) t)))
+GainsReport read a b = (r : Report) × (s : Report) × IsReport read.requirements r × IsDocumentsReport read.documents s
+    × (b ≡ with_report read.unopened a (without_ignored (joined_report r s)))
 
 module _ {R : Type 0} (options : CheckOptions) (files : List ℕ → KnownFile) (paths : List ℕ → Option (List ℕ)) (remaining : R → Option (List ℕ)) where
   -- the files that the words name were read, and their report follows

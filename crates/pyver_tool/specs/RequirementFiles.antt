@@ -1,5 +1,5 @@
 -- The files that `check` reads: those that the words name, those that the lines of requirements files name, and locks, step by step.
-use Rattle.std.specs.Prelude.{Bool, List, None, Option, Some, [], bytes_eq, codes, drop, false, if◌then◌else◌, length, map, nat_eq, not, string_bytes, suc, take, true, zero, ℕ, ◌&&◌, ◌++◌, ◌+◌, ◌<◌, ◌==◌, ◌||◌, ◌∷◌, ◌≡◌, ◌≤◌, ◌⊎◌}
+use Rattle.std.specs.Prelude.{Bool, List, None, Option, Some, [], bytes_eq, codes, drop, false, if◌then◌else◌, length, map, nat_eq, not, string_bytes, suc, take, true, zero, ℕ, ◌&&◌, ◌++◌, ◌+◌, ◌<◌, ◌||◌, ◌∷◌, ◌≡◌, ◌≤◌, ◌⊎◌}
 use Rattle.std.specs.List.{ends_with, flat_map, list_any, starts_with}
 use Rattle.std.specs.Str.{IsUtf8}
 use Rattle.pyver_commands.specs.Sources.SourceTexts.{FailsInText}
@@ -8,9 +8,8 @@ use Rattle.pyver_tool.specs.declared.options.FileKind.{FileKind}
 use Rattle.pyver_commands.specs.declared.sources.open_failure.OpenFailure.{OpenFailure}
 use Rattle.pyver_commands.specs.declared.sources.stream.RunFailure.{RunFailure}
 use Rattle.pyver_commands.specs.declared.sources.stream.RunFailure.TheVariants as run_failure
-use Rattle.pyver_findings.specs.Exports.{is_export}
 use Rattle.pyver_findings.specs.FileLines.{File}
-use Rattle.pyver_findings.specs.NamedFiles.{NamedFile, named_files}
+use Rattle.pyver_findings.specs.NamedFiles.{NamedFile, folder, named_files}
 use Rattle.pyver_documents.specs.Comparing.{is_project}
 use Rattle.pyver_documents.specs.Meanings.{Document}
 use Rattle.pyver_tool.specs.SplitWords.{kind_by_name}
@@ -87,30 +86,25 @@ name_between lock start rest = if is_folder start rest then (start ++ lock) ∷ 
 abbrev pub sought_names : List ℕ → List ℕ → List (List ℕ)
 sought_names path lock = flat_map (λ n. name_between lock (take n path) (drop n path)) (below (length path + 1))
 
--- each lock is sought by itself, in this order
+-- the name of a lock in the folder of the file with this path
+abbrev pub own_name : List ℕ → List ℕ → List (List ℕ)
+own_name path lock = (folder path ++ lock) ∷ []
+
+-- each lock is sought by itself, in this order: that of uv, which may have members, also in the folders above
 abbrev pub path_searches : List ℕ → List (List (List ℕ))
-path_searches path = map (sought_names path) (codes "pylock.toml" ∷ (codes "uv.lock" ∷ (codes "poetry.lock" ∷ (codes "pdm.lock" ∷ (codes "Pipfile.lock" ∷ [])))))
+path_searches path = own_name path (codes "pylock.toml") ∷ (sought_names path (codes "uv.lock") ∷ (own_name path (codes "poetry.lock") ∷ (own_name path (codes "pdm.lock") ∷ [])))
 
 -- the searches for the locks of a document: it is a project, and not standard input
 abbrev pub searches_for : Document → List (List (List ℕ))
 searches_for d = if is_project d.kind && not (is_input d.file.name) then path_searches d.file.name else []
 
-abbrev pub is_lock : Document → Bool
-is_lock d = not (is_project d.kind)
-
--- those for the locks of a requirements file: it is an export, and not standard input
-abbrev pub export_searches : File → List (List (List ℕ))
-export_searches f = if is_export f && not (is_input f.name) then path_searches f.name else []
-
--- the searches for the locks of these documents, of which none is a lock; or, where there is no document, of these files
-abbrev pub lock_searches : List File → List Document → List (List (List ℕ))
-lock_searches files documents =
-    if length documents == 0 then flat_map export_searches files
-    else (if list_any is_lock documents then [] else flat_map searches_for documents)
+-- the searches for the locks of these documents
+abbrev pub lock_searches : List Document → List (List (List ℕ))
+lock_searches documents = flat_map searches_for documents
 
 -- they are made, or none, after these files
 abbrev pub searches_if : Bool → FilesRead → List (List (List ℕ))
-searches_if seeks named = if seeks then lock_searches named.requirements named.documents else []
+searches_if seeks named = if seeks then lock_searches named.documents else []
 
 -- ---- what is read
 

@@ -230,10 +230,19 @@ choices_text (choice ∷ others) = codes "\nChoices:" ++ flat_map (λ c. codes "
 abbrev pub typed_name : Named → List ℕ
 typed_name option = if option.1 then codes "-" ++ option.0.letter else option.0.name
 
+-- the suggestion of the nearest right value, if one is near; or of what checks the files that are read no longer
+abbrev pub value_hint : Named → List ℕ → List ℕ
+value_hint option word =
+    if bytes_eq option.0.name (codes "--format") && bytes_eq word (codes "pipfile") then codes "; 'pipenv verify' checks a Pipfile" else hint (nearest word option.0.choices)
+
 -- the message of a word that is no value of the option
 abbrev pub value_message : Named → List ℕ → List ℕ → List ℕ
 value_message option word help =
-    codes "pyver: " ++ (typed_name option ++ (codes " needs " ++ (option.0.value ++ (codes ", not '" ++ (escaped word ++ (codes "'" ++ (hint (nearest word option.0.choices) ++ (choices_text option.0.choices ++ help_hint help))))))))
+    codes "pyver: " ++ (typed_name option ++ (codes " needs " ++ (option.0.value ++ (codes ", not '" ++ (escaped word ++ (codes "'" ++ (value_hint option word ++ (choices_text option.0.choices ++ help_hint help))))))))
+
+-- the message of a Pipfile or its lock, which are not read
+abbrev pub pipenv_message : List ℕ → List ℕ
+pipenv_message word = codes "pyver: '" ++ (escaped word ++ codes "' is not read: 'pipenv verify' checks it\n")
 
 -- the message of an option whose value is missing
 abbrev pub missing_message : Named → List ℕ → List ℕ

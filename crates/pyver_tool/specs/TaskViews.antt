@@ -1,6 +1,6 @@
 -- What the program's commands say, and what they have to do once the words are read, apart from where they lie in memory.
 use Rattle.std.specs.Prelude.{Bool, Err, List, None, Ok, Option, Result, Some, [], map, option_map, string_bytes, ℕ, ◌≡◌, ◌⊎◌}
-use Rattle.pyver_tool.specs.SplitWords.{Awaits, End, Given, Missing, Named, Split, Unknown, UnknownWord, Whole, version_last_message, row_of}
+use Rattle.pyver_tool.specs.SplitWords.{Awaits, End, Given, Missing, Named, Split, Unknown, UnknownWord, Whole, pipenv_message, version_last_message, row_of}
 use Rattle.pyver_tool.specs.Tasks.{Check, Compare, Filter, Help, IsOutcome, IsStream, Marker, Match, Misused, NameVersion, NeedsInput, Newest, Range, Show, Sort, Task, bump_from_words, by_split, help_text, names_read_by, wrong_command, wrong_count, wrong_end, wrong_operator, wrong_option, wrong_part, wrong_value}
 use Rattle.pyver_tool.specs.declared.command.Command.{Command}
 use Rattle.pyver_tool.specs.declared.words.Words.{Words}
@@ -88,6 +88,7 @@ misuse_message (misuse.Command word) = wrong_command word.now
 misuse_message (misuse.Option topic word) = wrong_option topic word.now
 misuse_message (misuse.Value topic option word) = wrong_value topic (named_of (λ s. s.now) (λ t. t.now) option) word.now
 misuse_message (misuse.Missing topic option) = wrong_end topic (named_of (λ s. s.now) (λ t. t.now) option)
+misuse_message (misuse.OfPipenv word) = pipenv_message word.now
 misuse_message (misuse.Comparison word) = wrong_operator word.now
 misuse_message (misuse.BumpPart word) = wrong_part word.now
 misuse_message (misuse.VersionFirst to word rest) = version_last_message to word.now (map string_bytes rest.now)

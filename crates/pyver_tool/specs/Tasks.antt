@@ -1,7 +1,7 @@
 -- The tasks that the words of a call name, and their outcomes: at most one of each, but of `marker`.
 use Rattle.std.specs.Prelude.{Bool, List, None, Option, Some, [], bytes_eq, codes, false, get_or, if◌then◌else◌, is_some, length, map, take, true, ℕ, ⊤, ◌++◌, ◌==◌, ◌||◌, ◌∷◌, ◌≡◌}
 use Rattle.std.specs.Char.{is_ascii_digit}
-use Rattle.std.specs.List.{All, list_any}
+use Rattle.std.specs.List.{All, find, list_any}
 use Rattle.std.specs.Option.{option_map_or}
 use Rattle.pep440_rs.specs.Lists.ListGrammar.{DerivesList}
 use Rattle.pep440_rs.specs.Specifiers.{Spec}
@@ -12,7 +12,7 @@ use Rattle.pyver_commands.specs.Comparisons.{Compares, comparison_of}
 use Rattle.pyver_commands.specs.Filters.{FiltersLines}
 use Rattle.pyver_commands.specs.MarkerExtents.{FindsExtent}
 use Rattle.pyver_commands.specs.Matches.{Matches}
-use Rattle.pyver_tool.specs.SplitWords.{Given, Missing, Named, Split, UnknownWord, missing_message, split_words, unknown_message, usage_message, value_message, version_last_message, options}
+use Rattle.pyver_tool.specs.SplitWords.{Given, Missing, Named, Split, UnknownWord, missing_message, pipenv_message, split_words, unknown_message, usage_message, value_message, version_last_message, options}
 use Rattle.pyver_commands.specs.NewestOutcomes.{FindsNewestLine}
 use Rattle.cli_io.specs.Runs.{Outcome}
 use Rattle.pyver_commands.specs.Outcomes.{message_outcome}
@@ -33,6 +33,7 @@ use Rattle.pyver_tool.specs.declared.settings.Settings.{Settings}
 use Rattle.pyver_commands.specs.declared.show.ShowFormat.{ShowFormat}
 use Rattle.pyver_commands.specs.declared.sort.SortOptions.{SortOptions}
 use Rattle.pyver_findings.specs.FindingLaws.{AreAlike, IsUndecided}
+use Rattle.pyver_documents.specs.DocumentKinds.{is_pipenv_path}
 use Rattle.pyver_documents.specs.DocumentLaws.{IsReadable}
 use Rattle.pyver_tool.specs.Checks.{CheckResult, GainsReport}
 use Rattle.pyver_tool.specs.RequirementFiles.{FilesRead}
@@ -183,6 +184,11 @@ abbrev pub is_json : ShowFormat → Bool
 is_json format.Json = true
 is_json _ = false
 
+-- the task of `check` with these settings and names, the first of which that is of Pipenv is this
+abbrev pub check_with : Settings → List (List ℕ) → Option (List ℕ) → Task
+check_with settings names (Some name) = Misused (pipenv_message name)
+check_with settings names None = Check (record { output = settings.output; each = settings.each; quiet = settings.quiet; kind = settings.kind; seeks_locks = settings.seeks_locks }) names
+
 -- the task of a command with these settings and operands
 abbrev pub task_with : Settings → Topic → List (List ℕ) → Task
 task_with settings topic.Compare (left ∷ word ∷ right ∷ []) = option_map_or (λ operator. Compare left operator right) (comparison_of word) (Misused (wrong_operator word))
@@ -195,7 +201,7 @@ task_with settings topic.Bump words = bump_operands settings.to words
 task_with settings topic.Range (word ∷ words) = Range (is_json settings.format) (word ∷ words)
 task_with settings topic.Marker (marker ∷ []) = Marker settings.linked marker None
 task_with settings topic.Marker (marker ∷ other ∷ []) = Marker settings.linked marker (Some other)
-task_with settings topic.Check names = Check (record { output = settings.output; each = settings.each; quiet = settings.quiet; kind = settings.kind; seeks_locks = settings.seeks_locks }) names
+task_with settings topic.Check names = check_with settings names (find is_pipenv_path names)
 task_with settings topic _ = Misused (wrong_count topic)
 
 -- ---- words

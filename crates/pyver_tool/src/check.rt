@@ -15,7 +15,7 @@ use crate::requirement_files::{UnopenedFile, read_files};
 use crate::settings::OutputForm;
 use cli_io::push_escaped;
 use pyver_commands::{Answer, Files, RunFailure};
-use pyver_documents::{find_document_problems, find_export_problems};
+use pyver_documents::find_document_problems;
 use pyver_findings::{Finding, Position, Report, find_problems, push_number, push_text};
 use std::alloc::{AllocError, Global};
 use std::io::Read;
@@ -30,7 +30,7 @@ pub(crate) struct CheckOptions {
     pub(crate) quiet: bool,
     // The kind of files that have none by name.
     pub(crate) kind: FileKind,
-    // The locks of projects, or of exports, are sought, if no lock is named.
+    // The locks of projects are sought.
     pub(crate) seeks_locks: bool,
 }
 
@@ -214,7 +214,6 @@ impl CheckResult {
         let documents = read.documents.as_slice();
         let mut report = find_problems(alloc, files)?;
         report.append(find_document_problems(alloc, documents)?)?;
-        report.append(find_export_problems(alloc, files, documents)?)?;
         Ok(self.push(report.apply_comments(alloc)?, read.unopened)?)
     }
 

@@ -1,6 +1,8 @@
 //! The command that words ask for, and what it writes.
 ghost use Rattle.std.specs.Prelude.{◌≡◌, [], IfOk, Some, map, option_map, string_bytes};
+ghost use Rattle.std.specs.List.{find};
 ghost use Rattle.pyver_commands.specs.AnswerViews.{outcome_of};
+ghost use Rattle.pyver_documents.specs.DocumentKinds.{is_pipenv_path};
 ghost use Rattle.pyver_tool.specs.TaskViews.{IsWork, misuse_message, option_with_value, split_of, task, words_task};
 ghost use Rattle.pyver_commands.specs.Outcomes.{message_outcome};
 ghost use Rattle.pyver_tool.specs.Settings.{effect, no_settings};
@@ -17,6 +19,7 @@ use pyver_commands::{
     bump_version, compare, find_common, find_extent, match_versions, parse_bump_part,
     parse_comparison, parse_specifiers, report_list_fault, show_versions, takes_prereleases,
 };
+use pyver_documents::is_pipenv_path;
 use std::alloc::{AllocError, Global};
 
 // What words ask for.
@@ -229,9 +232,24 @@ fn parse_bump<'a>(to: Option<u64>, words: &'a [String]) -> Command<'a>
     }
 }
 
+// The first word that names a Pipfile or its lock.
+fn find_pipenv_word(words: &[String]) -> Option<&str>
+    ensures { option_map (λ n. n.now) result ≡ find is_pipenv_path (map string_bytes words.now) }
+{
+    for word in words {
+        if is_pipenv_path(word.as_bytes()) {
+            return Some(word.as_str());
+        }
+    }
+    None
+}
+
 fn parse_check<'a>(settings: Settings, words: &'a [String]) -> Command<'a>
     ensures { task result ≡ task_with settings Topic.Check (map string_bytes words.now) }
 {
+    if let Some(word) = find_pipenv_word(words) {
+        return Command::Misused(Misuse::OfPipenv(word));
+    }
     let options = CheckOptions {
         output: settings.output,
         each: settings.each,

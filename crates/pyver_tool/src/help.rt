@@ -283,7 +283,7 @@ examples:
   pyver check requirements.txt
   pyver check lock.txt constraints.txt
   pyver check pyproject.toml
-  git show HEAD:uv.lock | pyver check --format uv pyproject.toml -
+  git show HEAD:uv.lock | pyver check --no-lock --format uv pyproject.toml -
   pyver check --each */requirements.txt
   pip freeze | pyver check --json
   pyver check --output github requirements.txt
@@ -292,12 +292,14 @@ Prints what is wrong in requirements files: lines that are no requirements, line
 satisfies together, and versions that one line names and another excludes. '-' and no file mean
 standard input. Files that lines name after -r and -c are read too, each once; their paths are
 relative to the file that names them. Lines count together where all their markers hold.
-A file named pyproject.toml or Pipfile is read as a project, one named pylock.toml, pylock.NAME.toml,
-uv.lock, poetry.lock, pdm.lock or Pipfile.lock as a lock: malformed strings are reported,
-requirements that no version satisfies together, and, for each lock beside a project, versions that
-it excludes and names the lock lacks. If no lock is named, each of these but pylock.NAME.toml is sought in the folder
-of a project, then in those above it that its path names, up to the first that is there.
-KIND is requirements, pyproject, pylock, uv, poetry, pdm or pipfile. FORM is text, json, github or
+A file named pyproject.toml is read as a project, one named pylock.toml, pylock.NAME.toml, uv.lock,
+poetry.lock or pdm.lock as a lock: malformed strings are reported, requirements that no version
+satisfies together, and, for each lock that belongs to a project, versions that it excludes and names
+the lock lacks. A lock belongs to the project in its folder, and uv.lock to the members that it names;
+each but pylock.NAME.toml is sought there, and uv.lock in the folders above that the path names, too.
+'uv lock --check', 'poetry check --lock' and 'pdm lock --check' tell whether a project was changed and
+not locked again; 'pipenv verify' checks a Pipfile.
+KIND is requirements, pyproject, pylock, uv, poetry or pdm. FORM is text, json, github or
 sarif: github prints commands that GitHub Actions shows at the lines, sarif a log of SARIF 2.1.0.
 Standard error says how much was read, and how much was left out: options of pip, editables, paths,
 archives, URLs, and lines with a variable. The exit status is 0 if nothing is wrong, 1 if something

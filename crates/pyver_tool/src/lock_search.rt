@@ -1,13 +1,11 @@
-//! Where the locks of projects and exports are sought.
-ghost use Rattle.std.specs.Prelude.{◌≡◌, ◌∷◌, ◌++◌, [], IfOk, if◌then◌else◌, map};
-ghost use Rattle.std.specs.List.{flat_map, list_any};
-ghost use Rattle.pyver_findings.specs.Views.{file_of};
-ghost use Rattle.pyver_documents.specs.Comparing.{is_project};
+//! Where the locks of projects are sought.
+ghost use Rattle.std.specs.Prelude.{◌≡◌, ◌++◌, [], IfOk, map};
 ghost use Rattle.pyver_documents.specs.DocumentViews.{document_of};
-ghost use Rattle.pyver_tool.specs.RequirementFiles.{export_searches, is_folder, is_lock, lock_searches, name_between, path_searches, search_of, searches_for, sought_names};
+ghost use Rattle.pyver_tool.specs.RequirementFiles.{is_folder, lock_searches, name_between, own_name, path_searches, search_of, searches_for, sought_names};
+ghost use Rattle.pyver_documents.specs.Comparing.{is_project};
 
 use pyver_documents::{Document, DocumentKind};
-use pyver_findings::{SourceFile, is_export};
+use pyver_findings::folder;
 use std::alloc::{AllocError, Global};
 
 // The names of a lock in the folders of a file, the nearest first.
@@ -58,7 +56,18 @@ fn list_names(alloc: Global, path: &[u8], lock: &str) -> Result<LockSearch, Allo
     Ok(LockSearch { names })
 }
 
-// The searches for each lock of the file with this path.
+// The name of the lock in the folder of the path.
+fn list_own_name(alloc: Global, path: &[u8], lock: &str) -> Result<LockSearch, AllocError>
+    ensures { IfOk result (λ search. search_of search ≡ own_name path.now lock.now) }
+{
+    let mut name = Vec::from_slice(alloc, folder(path))?;
+    name.extend_from_slice(lock.as_bytes())?;
+    let mut names = Vec::new(alloc);
+    names.push(name)?;
+    Ok(LockSearch { names })
+}
+
+// The searches for each lock of the project with this path.
 fn push_searches(
     alloc: Global,
     searches: &mut Vec<LockSearch>,
@@ -66,21 +75,17 @@ fn push_searches(
 ) -> Result<(), AllocError>
     ensures { IfOk result (λ _. map search_of searches.new.items ≡ map search_of searches.old.items ++ path_searches path.now) }
 {
-    searches.push(list_names(alloc, path, "pylock.toml")?)?;
+    searches.push(list_own_name(alloc, path, "pylock.toml")?)?;
     searches.push(list_names(alloc, path, "uv.lock")?)?;
-    searches.push(list_names(alloc, path, "poetry.lock")?)?;
-    searches.push(list_names(alloc, path, "pdm.lock")?)?;
-    searches.push(list_names(alloc, path, "Pipfile.lock")?)?;
+    searches.push(list_own_name(alloc, path, "poetry.lock")?)?;
+    searches.push(list_own_name(alloc, path, "pdm.lock")?)?;
     Ok(())
 }
 
-fn is_lock(document: &Document) -> bool
-    ensures { result ≡ is_lock (document_of document.now) }
+fn is_project(document: &Document) -> bool
+    ensures { result ≡ is_project (document_of document.now).kind }
 {
-    match document.kind {
-        DocumentKind::Project => false,
-        DocumentKind::Lock(_) => true,
-    }
+    matches!(document.kind, DocumentKind::Project)
 }
 
 // The searches for the locks of the document, if it is a project and not standard input.
@@ -92,82 +97,22 @@ fn push_document(
     ensures { IfOk result (λ _. map search_of searches.new.items ≡ map search_of searches.old.items ++ searches_for (document_of document.now)) }
 {
     let path = document.file.name.as_slice();
-    if is_lock(document) || path == b"-".as_slice() {
+    if !is_project(document) || path == b"-".as_slice() {
         return Ok(());
     }
     push_searches(alloc, searches, path)
-}
-
-fn has_lock(documents: &[Document]) -> bool
-    ensures { result ≡ list_any (λ d. is_lock (document_of d)) documents.now }
-{
-    documents.iter().any(|document| is_lock(document))
-}
-
-// The searches for the locks of the requirements file, if it is an export and not standard input.
-fn push_file(
-    alloc: Global,
-    searches: &mut Vec<LockSearch>,
-    file: &SourceFile,
-) -> Result<(), AllocError>
-    ensures { IfOk result (λ _. map search_of searches.new.items ≡ map search_of searches.old.items ++ export_searches (file_of file.now)) }
-{
-    let path = file.name.as_slice();
-    if !is_export(alloc, file)? || path == b"-".as_slice() {
-        return Ok(());
-    }
-    push_searches(alloc, searches, path)
-}
-
-// The searches for the locks of these requirements files.
-fn list_export_searches(alloc: Global, files: &[SourceFile]) -> Result<Vec<LockSearch>, AllocError>
-    ensures { IfOk result (λ searches. map search_of searches.items ≡ flat_map export_searches (map file_of files.now)) }
-{
-    let mut searches = Vec::new(alloc);
-    for file in files {
-        push_file(alloc, &mut searches, file)?;
-    }
-    Ok(searches)
 }
 
 // The searches for the locks of these documents.
-fn list_document_searches(
+pub(crate) fn list_searches(
     alloc: Global,
     documents: &[Document],
 ) -> Result<Vec<LockSearch>, AllocError>
-    ensures { IfOk result (λ searches. map search_of searches.items ≡ flat_map searches_for (map document_of documents.now)) }
+    ensures { IfOk result (λ searches. map search_of searches.items ≡ lock_searches (map document_of documents.now)) }
 {
     let mut searches = Vec::new(alloc);
     for document in documents {
         push_document(alloc, &mut searches, document)?;
     }
     Ok(searches)
-}
-
-// The searches for the locks of these documents; none if one of them is a lock.
-#[tactic(auto, using(pyver_requirements::proofs::Grouped::any_viewed))]
-fn list_unlocked_searches(
-    alloc: Global,
-    documents: &[Document],
-) -> Result<Vec<LockSearch>, AllocError>
-    ensures { IfOk result (λ searches. map search_of searches.items ≡ (if list_any is_lock (map document_of documents.now) then [] else flat_map searches_for (map document_of documents.now))) }
-{
-    if has_lock(documents) {
-        return Ok(Vec::new(alloc));
-    }
-    list_document_searches(alloc, documents)
-}
-
-// The searches for the locks of these documents; of the files, if there is no document.
-pub(crate) fn list_searches(
-    alloc: Global,
-    files: &[SourceFile],
-    documents: &[Document],
-) -> Result<Vec<LockSearch>, AllocError>
-    ensures { IfOk result (λ searches. map search_of searches.items ≡ lock_searches (map file_of files.now) (map document_of documents.now)) }
-{
-    if documents.is_empty() {
-        return list_export_searches(alloc, files);
-    }
-    list_unlocked_searches(alloc, documents)
 }

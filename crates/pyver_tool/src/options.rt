@@ -74,15 +74,7 @@ const FORMAT: OptionRow = (
     "",
     "--format",
     "one of its choices",
-    &[
-        "requirements",
-        "pyproject",
-        "pylock",
-        "uv",
-        "poetry",
-        "pdm",
-        "pipfile",
-    ],
+    &["requirements", "pyproject", "pylock", "uv", "poetry", "pdm"],
 );
 
 const COMPARE_OPTIONS: &[OptionRow] = &[HELP];

@@ -296,7 +296,7 @@ impl RequirementFiles {
         Ok(())
     }
 
-    // Reads the locks of the projects that were read, or of the exports, if no document was.
+    // Reads the locks of the projects that were read.
     fn seek_locks<F: Files, R: Read>(
         &mut self,
         alloc: Global,
@@ -305,17 +305,13 @@ impl RequirementFiles {
         input: &mut R,
     ) -> Result<(), RunFailure>
         requires { HasReads self.old }
-        ensures read { IfOk result (λ _. SeeksInTurn kind (F.known files.old) (F.path files.old) R.remaining (lock_searches (read_of self.old).requirements (read_of self.old).documents) (read_of self.old) (read_of self.new) input.old input.new) }
+        ensures read { IfOk result (λ _. SeeksInTurn kind (F.known files.old) (F.path files.old) R.remaining (lock_searches (read_of self.old).documents) (read_of self.old) (read_of self.new) input.old input.new) }
         ensures stopped { IfErr result (λ why. ((why ≡ RunFailure.OutOfMemory) × (input.new ≡ input.old))
-            ⊎ FailsInSearches kind (F.known files.old) (F.path files.old) R.remaining (lock_searches (read_of self.old).requirements (read_of self.old).documents) (read_of self.old) input.old input.new why) }
+            ⊎ FailsInSearches kind (F.known files.old) (F.path files.old) R.remaining (lock_searches (read_of self.old).documents) (read_of self.old) input.old input.new why) }
         ensures kept { F.known files.new ≡ F.known files.old }
         ensures kept_paths { F.path files.new ≡ F.path files.old }
     {
-        let searches = list_searches(
-            alloc,
-            self.requirements.as_slice(),
-            self.documents.as_slice(),
-        )?;
+        let searches = list_searches(alloc, self.documents.as_slice())?;
         for search in &searches {
             self.seek_first(alloc, kind, search, files, input)?;
         }

@@ -18,5 +18,5 @@ returns-in-Err c =
     let p = locked_of c.args.locked.now in
     let k = option_map read_condition_of c.args.condition in
     version_read c.reject_version.result (error_rejection c.in-Err.error) c.args.version.now
-    (λ y. (r : Record) × Derives c.args.version.now r × (locked_reading_of y ≡ record { line = l; name = normal p.name; extras = p.extras; condition = k; version = Some r; invalid = None }))
-    (λ f y. locked_reading_of y ≡ record { line = l; name = normal p.name; extras = p.extras; condition = k; version = None; invalid = Some (NoRequirement l (rejection_text f) (length p.name + 1)) }) c.in-Err.ensures.refused c.reject_version.ensures
+    (λ y. (r : Record) × Derives c.args.version.now r × (locked_reading_of y ≡ record { line = l; name = normal p.name; condition = k; version = Some r; invalid = None }))
+    (λ f y. locked_reading_of y ≡ record { line = l; name = normal p.name; condition = k; version = None; invalid = Some (NoRequirement l (rejection_text f) (length p.name + 1)) }) c.in-Err.ensures.refused c.reject_version.ensures

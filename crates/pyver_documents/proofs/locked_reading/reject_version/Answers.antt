@@ -22,4 +22,4 @@ returns c =
     let f = refusal (error_rejection e) c.in_ok-reason.ensures.memory in
     let told : error_text (Some f.0) ≡ Some (rejection_text f.0) = subst (λ (o : Option Rejection). IfSome o (λ g. error_text o ≡ Some (rejection_text g))) f.1 c.requires in
     let why : s ≡ rejection_text f.0 = version_reason_is f.0 s told (subst (λ (o : Option Rejection). IfSome (error_text o) (λ (t : List ℕ). s ≡ t)) f.1 c.in_ok-reason.ensures.text) in
-    IfOk-weaker c.reject.result (λ y. locked_reading_of y ≡ record { line = l; name = normal p.name; extras = p.extras; condition = k; version = None; invalid = Some (NoRequirement l s (length p.name + 1)) }) (λ y. (g : Rejection) × (error_rejection e ≡ Some g) × (locked_reading_of y ≡ record { line = l; name = normal p.name; extras = p.extras; condition = k; version = None; invalid = Some (NoRequirement l (rejection_text g) (length p.name + 1)) })) (λ x is. (f.0, f.1, is ∙ (λ j. record { line = l; name = normal p.name; extras = p.extras; condition = k; version = None; invalid = Some (NoRequirement l (why j) (length p.name + 1)) }))) c.reject.ensures
+    IfOk-weaker c.reject.result (λ y. locked_reading_of y ≡ record { line = l; name = normal p.name; condition = k; version = None; invalid = Some (NoRequirement l s (length p.name + 1)) }) (λ y. (g : Rejection) × (error_rejection e ≡ Some g) × (locked_reading_of y ≡ record { line = l; name = normal p.name; condition = k; version = None; invalid = Some (NoRequirement l (rejection_text g) (length p.name + 1)) })) (λ x is. (f.0, f.1, is ∙ (λ j. record { line = l; name = normal p.name; condition = k; version = None; invalid = Some (NoRequirement l (why j) (length p.name + 1)) }))) c.reject.ensures

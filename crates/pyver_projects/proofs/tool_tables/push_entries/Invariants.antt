@@ -7,5 +7,5 @@ use Rattle.pyver_projects.proofs.tool_tables.push_entries.Given as goal
 
 abbrev pub invariant-loop-name : goal.invariant-loop-name
 invariant-loop-name l =
-    map project_string_of l.sources.items ++ flat_map (entry_sources l.tool l.path) (members_list (members_view l.name-iterator))
-    ≡ map project_string_of l.initial.sources.items ++ flat_map (entry_sources l.tool l.path) (members_list (members_view l.found.entries))
+    map project_string_of l.sources.items ++ flat_map (entry_sources l.path) (members_list (members_view l.name-iterator))
+    ≡ map project_string_of l.initial.sources.items ++ flat_map (entry_sources l.path) (members_list (members_view l.found.entries))

@@ -7,5 +7,5 @@ use Rattle.pyver_projects.proofs.tool_tables.push_items.Given as goal
 
 abbrev pub invariant-loop-entry : goal.invariant-loop-entry
 invariant-loop-entry l =
-    map project_string_of l.sources.items ++ flat_map (entry_source l.tool l.table l.name) (map view (drop l.entry-index l.found))
-    ≡ map project_string_of l.initial.sources.items ++ flat_map (entry_source l.tool l.table l.name) (map view l.found)
+    map project_string_of l.sources.items ++ flat_map (entry_source l.table l.name) (map view (drop l.entry-index l.found))
+    ≡ map project_string_of l.initial.sources.items ++ flat_map (entry_source l.table l.name) (map view l.found)

@@ -2,7 +2,7 @@ use Rattle.std.proofs.Common.{◌≡◌, ◌++◌, drop, map}
 use Rattle.std.specs.List.{flat_map}
 use Rattle.pyver_documents.specs.DocumentViews.{document_of}
 use Rattle.pyver_tool.specs.RequirementFiles.{search_of, searches_for}
-use Rattle.pyver_tool.proofs.lock_search.list_document_searches.Given as goal
+use Rattle.pyver_tool.proofs.lock_search.list_searches.Given as goal
 
 abbrev pub invariant-loop-document : goal.invariant-loop-document
 invariant-loop-document l =
