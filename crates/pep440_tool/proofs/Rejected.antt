@@ -1,10 +1,10 @@
 -- Texts that are rejected, by the errors of their readers; and commands that end there.
-use Rattle.std.proofs.Common.{◌≡◌, ◌≤◌, ℕ, List, [], Option, Some, true, inl, inr, refl, sym, ap, subst, ◌⊎◌, Bool, false, None, IfSome, Result, Ok, Err, codes, is_none}
+use Rattle.std.proofs.Common.{◌≡◌, ℕ, List, [], Option, Some, true, inl, inr, refl, sym, ap, subst, ◌⊎◌, Bool, false, None, IfSome, Result, Ok, Err, codes, is_none}
 use Rattle.std.specs.Prelude.{IsErrAnd, option_map}
 use Rattle.pep440_pick.specs.RequirementGrammar.{RejectsRequirement, RequirementRejection, InvalidExtras, InvalidName, Marker, Specifiers, Unclosed, Url}
 use Rattle.pep440_rs.specs.Specifiers.{Spec}
 use Rattle.pep440_version.specs.Record.{Record}
-use Rattle.pep440_tool.specs.Answers.{line, ToolAnswer, RangeAnswer, edited_answer, line_fault_text, range_answer, memory_text}
+use Rattle.pep440_tool.specs.Answers.{line, ToolAnswer, RangeAnswer, edited_answer, line_fault_text, range_answer}
 use Rattle.pep440_tool.specs.Lines.{RejectsLine}
 use Rattle.pep440_tool.specs.Picks.{is_of_list, shown_requirement_error}
 use Rattle.std.specs.Str.{IsUtf8}
@@ -30,13 +30,6 @@ use Rattle.pep440_tool.specs.declared.error.CommandError.{CommandError}
 use Rattle.pep440_tool.specs.declared.error.CommandError.TheVariants.{Change, NotUtf8, Range}
 use Rattle.pep440_tool.specs.declared.output.Answer.{Answer}
 use Rattle.pep440_tool.specs.AnswerValues.{HoldsOfAnswer, answer_value}
-use Rattle.std.proofs.KnownBytes.{Appends-nil}
-use Rattle.std.specs.Io.KnownBytes.{Appends}
-use Rattle.cli_io.proofs.Bytes.{WroteBeginning-none}
-use Rattle.cli_io.specs.Runs.{AtOnce, Nothing}
-use Rattle.cli_io.specs.Streams.{WroteBeginning}
-use Rattle.pep440_tool.specs.Commands.{IsAnswer, request_of_words, reads_input}
-use Rattle.pep440_tool.specs.Runs.{RunEnds, TookInput}
 
 -- ---- texts that are rejected, by the errors of their readers that say why
 
@@ -111,36 +104,3 @@ answered_weaker Q R all (Err e) h = rejects_weaker Q R all e h
 pub stopped : {X : Type 0} (P : X → Type 0) (Q R : ToolAnswer → Type 0) → ((a : ToolAnswer) → Q a → R a) → (e : CommandError) → ErrorPrints Q e → (result : Result X CommandError) → IsErrAnd result (λ x. x ≡ e) → HoldsOrPrints P R result
 stopped P Q R all e h (Ok x) none = absurd none
 stopped P Q R all e h (Err x) same = subst (ErrorPrints R) (sym same) (rejects_weaker Q R all e h)
-
--- ---- how runs end, by what was written
-
-module _ {R W : Type 0} (remaining : R → Option (List ℕ)) (contents : W → Option (List ℕ)) (words : List (List ℕ)) (reader reader' : R) (writer writer' : W) (status : ℕ) where
-  -- the message of an allocation that failed was written, or a beginning of it
-  pub ends_refused : (status ≡ 3) ⊎ (status ≡ 4) → WroteBeginning (contents writer) (contents writer') memory_text → RunEnds remaining contents words reader reader' writer writer' status
-  ends_refused known wrote = (writer, inr (record { begun = Nothing; message = memory_text; why = (known, refl); begins = (refl, wrote) }))
-
-  module _ (input : List ℕ) (took : TookInput remaining (reads_input (request_of_words words)) reader reader' input) (a : ToolAnswer) (is : IsAnswer (request_of_words words) input a) where
-    pub ends_answered : status ≡ a.status → status ≤ 2 → Appends (contents writer) (contents writer') a.output → RunEnds remaining contents words reader reader' writer writer' status
-    ends_answered ended low wrote = (
-      writer',
-      inl (record {
-        outcome = record { output = a.output; errors = []; status = a.status };
-        is = record { input = input; took = took; answer = a; is = is; outcome = refl };
-        output = wrote;
-        errors = Appends-nil (contents writer');
-        ended = ended;
-        low = low;
-      }),
-    )
-
-    -- a write of the answer failed
-    pub ends_cut : status ≡ 4 → WroteBeginning (contents writer) (contents writer') a.output → RunEnds remaining contents words reader reader' writer writer' status
-    ends_cut four wrote = (
-      writer',
-      inr (record {
-        begun = AtOnce (record { output = a.output; errors = []; status = a.status });
-        message = [];
-        why = (four, refl, record { input = input; took = took; answer = a; is = is; outcome = refl });
-        begins = inl (wrote, WroteBeginning-none (contents writer') []);
-      }),
-    )

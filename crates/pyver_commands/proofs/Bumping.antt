@@ -26,6 +26,7 @@ use Rattle.pep440_version.proofs.Reading.Digits.{value_of}
 use Rattle.pyver_commands.specs.Readings.{are_digits, word_number}
 use Rattle.pyver_commands.specs.declared.bump.BumpError.TheVariants as error
 use Rattle.pyver_commands.specs.declared.bump.BumpPart.TheVariants as part
+use Rattle.pyver_commands.proofs.NewestAnswers.{k}
 
 -- ---- the result is greater
 

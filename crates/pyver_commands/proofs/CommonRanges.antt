@@ -41,7 +41,9 @@ use Rattle.pep440_sets.specs.SetLines.{is_closed_start}
 use Rattle.pep440_sets.specs.Sets.{has_exact, list_set}
 use Rattle.pep440_sets.specs.Witnesses.{version_between}
 use Rattle.std.proofs.lemmas.Slice.Zip.{all_zipped_more}
+use Rattle.pyver_commands.proofs.SourceFilters.{reads}
 use Rattle.pyver_commands.proofs.Outputs.{told}
+use Rattle.pyver_commands.proofs.NewestAnswers.{k}
 
 -- ---- one list after another
 

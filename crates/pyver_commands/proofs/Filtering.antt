@@ -41,7 +41,9 @@ use Rattle.pyver_commands.specs.declared.sources.version_line.VersionLines.{Vers
 use Rattle.std.specs.Io.KnownBytes.{Consumes}
 use Rattle.std.proofs.KnownBytes.{Consumes-nil}
 use Rattle.pyver_commands.proofs.CommonRanges.{found_more}
+use Rattle.pyver_commands.proofs.SourceFilters.{reads, wrote}
 use Rattle.pyver_commands.proofs.Sorting.{now}
+use Rattle.pyver_commands.proofs.NewestAnswers.{k}
 use Rattle.pyver_commands.proofs.Keeping.{few_faults}
 
 -- ---- what is asked for by some lines and then by others

@@ -19,7 +19,9 @@ use Rattle.pyver_commands.specs.declared.sources.invalid_lines.InvalidLines.{Inv
 use Rattle.pyver_commands.specs.declared.sources.line_options.LineOptions.{LineOptions}
 use Rattle.pyver_commands.specs.declared.sources.source_texts.SourceText.{SourceText}
 use Rattle.pyver_commands.specs.declared.sources.version_line.VersionLines.{VersionLines}
+use Rattle.pyver_commands.proofs.SourceFilters.{reads}
 use Rattle.pyver_commands.proofs.Sorting.{now}
+use Rattle.pyver_commands.proofs.NewestAnswers.{k}
 
 header_text-append : (xs ys : List ReadLine) → header_text (xs ++ ys) ≡ header_text xs ++ header_text ys
 header_text-append xs ys = flat_map-append (λ (x : ReadLine). header_with x.line x.reading) xs ys

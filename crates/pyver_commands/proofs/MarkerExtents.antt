@@ -6,7 +6,7 @@ use Rattle.pyver_markers.specs.Conditions.{Domain}
 use Rattle.pyver_markers.specs.Extents.{Always, Extent, IsExtent, Nowhere, Somewhere, Undecided}
 use Rattle.pyver_requirements.specs.MarkerGrammar.{Both, DenotesMarker, Marker}
 use Rattle.pyver_requirements.specs.MarkerSteps.{Step, steps}
-use Rattle.pyver_commands.proofs.NewestAnswers.{only}
+use Rattle.pyver_commands.proofs.NewestAnswers.{k, only}
 
 -- ---- where markers hold
 

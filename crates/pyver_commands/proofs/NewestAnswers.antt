@@ -32,6 +32,7 @@ use Rattle.pep440_rs.specs.LiteralMatching.{list_matches_literally}
 use Rattle.pep440_rs.specs.Specifiers.{Spec}
 use Rattle.pyver_commands.specs.declared.newest_lines.KeptLine.{KeptLine}
 use Rattle.pyver_commands.proofs.CommonRanges.{found_more, lines_status}
+use Rattle.pyver_commands.proofs.SourceFilters.{sources, reads, wrote}
 use Rattle.pyver_commands.proofs.Outputs.{told}
 use Rattle.pyver_commands.proofs.Keeping.{no_faults}
 

@@ -29,6 +29,8 @@ use Rattle.pyver_commands.specs.Sources.VersionLineViews.{version_line_of, versi
 use Rattle.pyver_commands.specs.declared.sort.SortOptions.{SortOptions}
 use Rattle.pyver_commands.proofs.MarkerExtents.{printed}
 use Rattle.pyver_commands.proofs.CommonRanges.{both}
+use Rattle.pyver_commands.proofs.SourceFilters.{sources}
+use Rattle.pyver_commands.proofs.NewestAnswers.{k}
 
 -- ---- sources that are read and filtered one after another
 

@@ -26,6 +26,7 @@ use Rattle.pyver_commands.specs.declared.sources.stream.RunFailure.{RunFailure}
 use Rattle.pyver_commands.proofs.CommonRanges.{both, lines_status}
 use Rattle.pyver_commands.proofs.Filtering.{printed_lines-append, first-append, length-faults, began, wrote_front}
 use Rattle.pyver_commands.proofs.Sorting.{last_is}
+use Rattle.pyver_commands.proofs.NewestAnswers.{k}
 
 -- the names that were read, and the next one
 pub names_more : {X : Type 0} (f : X → List ℕ) (xs : List X) (i : ℕ) (x d : X) (text : List ℕ) → i < length xs → x ≡ get_or xs i d → text ≡ f x → map f (take (i + 1) xs) ≡ map f (take i xs) ++ text ∷ []

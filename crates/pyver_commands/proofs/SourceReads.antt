@@ -16,7 +16,8 @@ use Rattle.pyver_commands.specs.Sources.{KnownFile, MayOpen, ReadsAll, ReadsInpu
 use Rattle.pyver_commands.specs.declared.sources.open_failure.OpenFailure.{OpenFailure}
 use Rattle.pyver_commands.specs.declared.sources.stream.RunFailure.{RunFailure}
 use Rattle.pyver_commands.specs.declared.sources.stream.RunFailure.TheVariants as run_failure
-use Rattle.pyver_commands.proofs.SourceFilters.{stops_before}
+use Rattle.pyver_commands.proofs.SourceFilters.{sources, reads, stops_before}
+use Rattle.pyver_commands.proofs.NewestAnswers.{k}
 use Rattle.pyver_commands.proofs.Keeping.{size_of-append}
 
 -- ---- sources that are read to their ends
