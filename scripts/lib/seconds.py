@@ -3,7 +3,7 @@
 The prover saves each module of a proof as it ends with it, under a name that begins with its function's, so the time since it saved the one before is
 that module's. Seconds differ from machine to machine, so a function's are divided by those of one of std that each crate has proved again. The list
 dearest.txt has those that take ten times as long, which --write makes anew. A function that takes two fifths more than the list says, or than that if it
-is not there, is a fault. Exit status: 0 if there is none, else 1.
+is not there, is a fault, but in a crate of which the list has none. Exit status: 0 if there is none, else 1.
 """
 import collections
 import pathlib
@@ -59,7 +59,8 @@ def main(words):
         LIST.write_text(HEAD + "".join(f"{crate}\t{name}\t{figure:.0f}\n" for figure, crate, name in found if figure >= DEAR), encoding="utf-8")
         return 0
     wanted = {(crate, name): float(figure) for crate, name, figure in (it.split("\t") for it in LIST.read_text().splitlines() if it[:1] != "#")}
-    faults = [it for it in found if it[0] > PLAY * wanted.get(it[1:], DEAR)]
+    known = {crate for crate, _ in wanted}
+    faults = [it for it in found if it[1] in known and it[0] > PLAY * wanted.get(it[1:], DEAR)]
     for figure, crate, name in faults:
         print(f"{crate} {name}: {figure:.0f}, listed {wanted.get((crate, name), f'below {DEAR}')}")
     print(f"{len(found) - len(faults)} functions as dear as they were, {len(faults)} dearer")
