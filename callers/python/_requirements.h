@@ -506,6 +506,20 @@ static PyObject *normal_name(PyObject *module, PyObject *given)
     return PyUnicode_FromStringAndSize(out, written);
 }
 
+/* is_normal_name(name): whether a str of ASCII has small letters and digits, with one `-` between them; else None */
+static PyObject *is_normal_name(PyObject *module, PyObject *given)
+{
+    Py_ssize_t length = 0, at = 0;
+    const char *name = PyUnicode_CheckExact(given) ? PyUnicode_AsUTF8AndSize(given, &length) : NULL;
+    if (!name || length != PyUnicode_GetLength(given)) {
+        PyErr_Clear();
+        Py_RETURN_NONE;
+    }
+    while (at < length && ((is_letter_or_digit(name[at]) && normal_byte(name[at]) == name[at]) || (name[at] == '-' && at && name[at - 1] != '-')))
+        at++;
+    return PyBool_FromLong(length && at == length && name[length - 1] != '-');
+}
+
 /* canonicalize_name(name, *, validate=False) of a module that has `_canonicalize_by_python`, which takes all but a short str of ASCII alone. */
 static PyObject *canonicalize_name(PyObject *module, PyObject *const *args, Py_ssize_t count, PyObject *names)
 {

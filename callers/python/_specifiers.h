@@ -385,7 +385,7 @@ static int read_compiled(Specifiers *self, PyObject *given, PyObject *text, PyOb
     }
     Py_XDECREF(print);
     if (status == PEP440_INVALID_LIST)
-        raise_invalid(InvalidSpecifier, INVALID_SPECIFIER, given, text, pep440_specifier_error);
+        raise_invalid(InvalidSpecifier, given, text, pep440_specifier_error);
     else
         raise_by(status, NULL, NULL);
     return -1;
@@ -570,7 +570,7 @@ static PyObject *specifier_compare(PyObject *left, PyObject *right, int operatio
     if (!is_same && PyObject_TypeCheck(right, HeldSpecifierType) && (is_same = PyObject_IsInstance(right, (PyObject *)Py_TYPE(left))) < 0)
         return NULL;
     if (!is_same && !PyUnicode_Check(right))
-        Py_RETURN_NOTIMPLEMENTED;
+        return compare_with_twin(member_class, left, right, operation);
     other = is_same ? Py_NewRef(right) : PyObject_CallFunctionObjArgs((PyObject *)Py_TYPE(left), right, NULL);
     if (!other && PyErr_ExceptionMatches(InvalidSpecifier)) {
         PyErr_Clear();

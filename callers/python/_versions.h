@@ -24,10 +24,10 @@ static int raise_no_str(PyObject *given)
     return -1;
 }
 
-/* The same of what is given for a version, in place of which `packaging` 26 has an error of its own. */
+/* The same of what is given for a version, in place of which `packaging` 26.3 has an error of its own. */
 static int raise_no_version(PyObject *given)
 {
-    if (!follows_26)
+    if (!follows_26_3)
         return raise_no_str(given);
     PyErr_Format(InvalidVersion, "Invalid version: %R", given);
     return -1;
@@ -216,7 +216,7 @@ __attribute__((noinline)) static PyObject *compare_held(PyObject *left, PyObject
     Held *one = (Held *)left, *other = (Held *)right; /* the left one is a version, since its type has this call */
     int order;
     if (Py_TYPE(right) != Py_TYPE(left) && !PyObject_TypeCheck(right, HeldType))
-        Py_RETURN_NOTIMPLEMENTED;
+        return compare_with_twin((PyObject *)HeldType, left, right, operation);
     if (!is_initialised(one) || !is_initialised(other))
         return NULL;
     if (one->has_own_key || other->has_own_key)
@@ -454,6 +454,190 @@ static int set_own_key(Held *self, PyObject *value, void *unused)
     return 0;
 }
 
+/* ---- copies and pickles, in the form of `packaging` 26.2: (epoch, release, pre, ("post", number), ("dev", number), local) */
+
+/* The part behind its name, or None. */
+static PyObject *named_part(const char *name, PyObject *part)
+{
+    return part == Py_None ? Py_NewRef(Py_None) : Py_BuildValue("sO", name, part);
+}
+
+/* A segment of a local part: a number, or a string in lower case. */
+static PyObject *make_segment(const char *start, Py_ssize_t length)
+{
+    PyObject *text = PyUnicode_FromStringAndSize(start, length), *number;
+    const char *digits = text ? PyUnicode_AsUTF8AndSize(text, NULL) : NULL;
+    if (digits && strspn(digits, "0123456789") < (size_t)length)
+        return text;
+    number = digits ? PyLong_FromString(digits, NULL, 10) : NULL;
+    Py_XDECREF(text);
+    return number;
+}
+
+/* The segments of a normalized local part. */
+static PyObject *segments_of(PyObject *local)
+{
+    Py_ssize_t length = 0, count = 1, place = 0;
+    const char *at = PyUnicode_AsUTF8AndSize(local, &length), *end, *point;
+    PyObject *made, *segment;
+    if (!at)
+        return NULL;
+    end = at + length;
+    for (point = at; (point = memchr(point, '.', (size_t)(end - point))); point++)
+        count++;
+    made = PyTuple_New(count);
+    for (; made && place < count; place++, at = point + 1) {
+        point = memchr(at, '.', (size_t)(end - at));
+        segment = make_segment(at, (point ? point : end) - at);
+        if (!segment || PyTuple_SetItem(made, place, segment) < 0)
+            Py_CLEAR(made);
+    }
+    return made;
+}
+
+static PyObject *local_segments(Held *self)
+{
+    pep440_string text;
+    PyObject *local, *made;
+    if (view_str(self->text, &text) < 0)
+        return NULL;
+    if (!memchr(text.bytes, '+', text.length))
+        Py_RETURN_NONE;
+    local = get_print(self, (void *)LOCAL);
+    made = local ? segments_of(local) : NULL;
+    Py_XDECREF(local);
+    return made;
+}
+
+/* What a copy is made of; Python says it of a subclass, of one with a key of its own, and by 25. */
+static PyObject *held_state(Held *self, PyObject *unused)
+{
+    PyObject *parts, *post, *dev, *local, *made;
+    if (!follows_26 || Py_TYPE((PyObject *)self) != HeldType || self->has_own_key)
+        return PyObject_CallMethod((PyObject *)self, "_state_by_python", NULL);
+    if (!part_of(self, EPOCH))
+        return NULL;
+    parts = Py_NewRef(self->parts);
+    post = named_part("post", PyTuple_GetItem(parts, POST));
+    dev = named_part("dev", PyTuple_GetItem(parts, DEV));
+    local = local_segments(self);
+    made = Py_BuildValue("OOONNN", PyTuple_GetItem(parts, EPOCH), PyTuple_GetItem(parts, RELEASE), PyTuple_GetItem(parts, PRE), post, dev, local);
+    Py_DECREF(parts);
+    return made;
+}
+
+/* The string of a version that is written, in so many bytes at most. */
+typedef struct {
+    char bytes[256];
+    size_t length;
+    int is_left; /* it is left to Python */
+} Text;
+
+static void add_bytes(Text *text, const char *bytes, size_t length)
+{
+    text->is_left |= length > sizeof text->bytes - text->length;
+    if (text->is_left)
+        return;
+    memcpy(text->bytes + text->length, bytes, length);
+    text->length += length;
+}
+
+static void add_number(Text *text, PyObject *given)
+{
+    char digits[24];
+    size_t at = sizeof digits;
+    unsigned long long number = PyLong_CheckExact(given) ? PyLong_AsUnsignedLongLong(given) : 0;
+    text->is_left |= !PyLong_CheckExact(given) || PyErr_Occurred() != NULL;
+    PyErr_Clear();
+    do
+        digits[--at] = (char)('0' + number % 10);
+    while (number /= 10);
+    add_bytes(text, digits + at, sizeof digits - at);
+}
+
+static void add_str(Text *text, PyObject *given)
+{
+    Py_ssize_t length = 0;
+    const char *bytes = PyUnicode_CheckExact(given) ? PyUnicode_AsUTF8AndSize(given, &length) : NULL;
+    text->is_left |= !bytes;
+    PyErr_Clear();
+    add_bytes(text, bytes ? bytes : "", (size_t)length);
+}
+
+/* Adds numbers, or as well strings where they are segments, with points between them. */
+static void add_numbers(Text *text, PyObject *given, int are_segments)
+{
+    Py_ssize_t count = PyTuple_CheckExact(given) ? PyTuple_Size(given) : 0;
+    text->is_left |= !count;
+    for (Py_ssize_t place = 0; place < count; place++) {
+        PyObject *each = PyTuple_GetItem(given, place);
+        if (place)
+            add_bytes(text, ".", 1);
+        if (are_segments && PyUnicode_CheckExact(each))
+            add_str(text, each);
+        else
+            add_number(text, each);
+    }
+}
+
+/* Adds a name and its number behind what stands between, if they are there. */
+static void add_named(Text *text, const char *between, PyObject *given)
+{
+    if (given == Py_None)
+        return;
+    text->is_left |= !PyTuple_CheckExact(given) || PyTuple_Size(given) != 2;
+    if (text->is_left)
+        return;
+    add_bytes(text, between, strlen(between));
+    add_str(text, PyTuple_GetItem(given, 0));
+    add_number(text, PyTuple_GetItem(given, 1));
+}
+
+/* Writes the version of a state in the form of 26.2, or leaves it to Python. */
+static void write_state(Text *text, PyObject *state)
+{
+    enum { OF_POST = 3, OF_DEV, OF_LOCAL, PARTS };
+    text->length = 0;
+    text->is_left = !PyTuple_CheckExact(state) || PyTuple_Size(state) != PARTS;
+    if (text->is_left)
+        return;
+    add_number(text, PyTuple_GetItem(state, EPOCH));
+    add_bytes(text, "!", 1);
+    add_numbers(text, PyTuple_GetItem(state, RELEASE), 0);
+    add_named(text, "", PyTuple_GetItem(state, PRE));
+    add_named(text, ".", PyTuple_GetItem(state, OF_POST));
+    add_named(text, ".", PyTuple_GetItem(state, OF_DEV));
+    if (PyTuple_GetItem(state, OF_LOCAL) == Py_None)
+        return;
+    add_bytes(text, "+", 1);
+    add_numbers(text, PyTuple_GetItem(state, OF_LOCAL), 1);
+}
+
+/* Reads the version of a state; Python reads that of a subclass, or of another form. */
+static PyObject *held_restore(Held *self, PyObject *state)
+{
+    Text text;
+    PyObject *given;
+    size_t start;
+    int done;
+    text.is_left = 1;
+    if (Py_TYPE((PyObject *)self) == HeldType)
+        write_state(&text, state);
+    if (text.is_left)
+        return PyObject_CallMethod((PyObject *)self, "_restore_by_python", "(O)", state);
+    start = text.bytes[0] == '0' && text.bytes[1] == '!' ? 2 : 0; /* most have no epoch */
+    given = PyUnicode_FromStringAndSize(text.bytes + start, (Py_ssize_t)(text.length - start));
+    done = given ? read_version(self, given, 0) : -1;
+    Py_XDECREF(given);
+    if (done < 0)
+        return NULL;
+    Py_RETURN_NONE;
+}
+
+static PyMethodDef held_calls[] = {{"__getstate__", (PyCFunction)(void (*)(void))held_state, METH_NOARGS, "What a copy is made of, as `packaging` has it."},
+                                   {"__setstate__", (PyCFunction)(void (*)(void))held_restore, METH_O, "Reads what a copy is made of."},
+                                   {NULL, NULL, 0, NULL}};
+
 static PyObject *get_text(Held *self, void *unused) { return is_initialised(self) ? Py_NewRef(self->text) : NULL; }
 
 static PyGetSetDef held_values[] = {
@@ -480,7 +664,7 @@ static PyGetSetDef held_values[] = {
 
 static PyType_Slot held_slots[] = {{Py_tp_init, held_init},       {Py_tp_dealloc, held_free},        {Py_tp_hash, held_hash},
                                    {Py_tp_str, held_str},         {Py_tp_repr, held_repr},           {Py_tp_richcompare, held_compare},
-                                   {Py_tp_getset, held_values},   {Py_tp_doc, "Version(version)\n--\n\nA version, compiled."}, {0, NULL}};
+                                   {Py_tp_getset, held_values},   {Py_tp_methods, held_calls},       {Py_tp_doc, "Version(version)\n--\n\nA version, compiled."}, {0, NULL}};
 
 /* It holds nothing that may hold it, so the garbage collector need not see it. What Python has of it, its module sets. */
 static PyType_Spec held_spec = {"pep440_rattle.version.Version", sizeof(Held), 0, Py_TPFLAGS_DEFAULT | Py_TPFLAGS_BASETYPE, held_slots};

@@ -208,7 +208,11 @@ class Specifiers(unittest.TestCase):
             self.assertTrue(str(caught.exception).startswith(f"Invalid specifier: {text!r}"), caught.exception)
         with self.assertRaises(InvalidSpecifier) as caught:
             Specifier(" it's \n")
-        self.assertTrue(str(caught.exception).startswith('Invalid specifier: " it\'s \\n"\n'), caught.exception)
+        self.assertTrue(str(caught.exception).startswith('Invalid specifier: " it\'s \\n": '), caught.exception)
+        for kind, text in ((Version, "1.0\n\u2028\x1fx"), (Specifier, ">=1.0\n\u2028\x1fx"), (SpecifierSet, ">=1, <1\nx")):
+            with self.assertRaises(ValueError) as caught:
+                kind(text)
+            self.assertEqual(len(str(caught.exception).splitlines()), 1, caught.exception)
         with self.assertRaises(InvalidSpecifier):
             SpecifierSet(">=1.0, <x")
 

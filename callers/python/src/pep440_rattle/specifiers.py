@@ -16,7 +16,7 @@ from collections import namedtuple
 
 from . import _core
 from ._core import InvalidSpecifier
-from .version import InvalidVersion, Version, _remove_held_slots, _set_attributes, _split_state, _state_by_26, _state_of, _text_of_other
+from .version import InvalidVersion, Version, _remove_held_slots, _set_attributes, _split_state, _state_by_26, _state_of, _text_of_other, _twin_of
 
 __all__ = ["BaseSpecifier", "Bound", "InvalidSpecifier", "Specifier", "SpecifierSet"]
 
@@ -108,8 +108,12 @@ def _version_or_none(item: object) -> Version | None:
     """The version that is given, or None where it is none."""
     try:
         return _version_of(item)  # type: ignore[arg-type]
-    except (InvalidVersion, TypeError):
+    except InvalidVersion:
         return None
+    except TypeError:
+        if _core.follows_26_3():
+            return None
+        raise
 
 
 def _is_normal(text: str) -> bool:
@@ -338,10 +342,10 @@ class Specifier(_core.HeldSpecifier, BaseSpecifier, metaclass=_Called):
         asked = ["contains", "operator", "version", "prereleases", "__str__", "_get_operator", *map("_compare_{}".format, cls._operators.values())]
         _note_changes(cls, Specifier, asked)
 
-    def __getstate__(self) -> Any:
+    def _state_by_python(self) -> Any:
         return _get_state(self, spec=self._spec, prereleases=self._prereleases)
 
-    def __setstate__(self, state: Any) -> None:
+    def _restore_by_python(self, state: Any) -> None:
         try:
             attributes, slots = _split_state({"_spec": state[0], "_prereleases": state[1]} if _is_of_26(state, tuple) else state)
             text, prereleases = "".join(attributes.pop("_spec")), attributes.pop("_prereleases")
@@ -465,10 +469,10 @@ class SpecifierSet(_core.HeldSet, BaseSpecifier, metaclass=_Called):
         super().__init_subclass__(**named)
         _note_changes(cls, SpecifierSet, ["prereleases"])
 
-    def __getstate__(self) -> Any:
+    def _state_by_python(self) -> Any:
         return _get_state(self, specs=self._specs, prereleases=self._prereleases)
 
-    def __setstate__(self, state: Any) -> None:
+    def _restore_by_python(self, state: Any) -> None:
         try:
             attributes, slots = _split_state({"_specs": state[0], "_prereleases": state[1]} if _is_of_26(state, tuple) else state)
             members, prereleases = attributes.pop("_specs"), attributes.pop("_prereleases")
@@ -625,4 +629,4 @@ def _sorted_members(members: Iterable[Specifier]) -> tuple[Specifier, ...]:
     return tuple(dict.fromkeys(sorted(members, key=str)))
 
 
-_core.use(Specifier, SpecifierSet, _text_of_other, _sorted_members)
+_core.use(Specifier, SpecifierSet, _text_of_other, _twin_of, _sorted_members)

@@ -298,7 +298,7 @@ def _valid_release(value: Any) -> tuple[int, ...]:
 
 
 def _valid_pre(value: Any) -> tuple[str, int]:
-    if isinstance(value, tuple) and len(value) == 2 and isinstance(value[0], str):
+    if isinstance(value, tuple) and len(value) == 2 and (isinstance(value[0], str) or not _core.follows_26_3()):
         letter = normalize_pre(value[0])
         if letter in ("a", "b", "rc") and _is_number(value[1]):
             return letter, int(value[1])
@@ -374,8 +374,8 @@ def _text(version: Version) -> str:
 
 _OF_PYTHON = {
     "__init_subclass__": classmethod(_init_subclass),
-    "__getstate__": _get_state,
-    "__setstate__": _set_state,
+    "_state_by_python": _get_state,
+    "_restore_by_python": _set_state,
     "__match_args__": ("_str",),
     "__replace__": _replace,
     "from_parts": classmethod(_from_parts),
@@ -520,9 +520,27 @@ def _suffix_by_26(pre: tuple[str, int] | None, post: tuple[str, int] | None, dev
     return _RANKS[kind], number, int(post is not None), post[1] if post else 0, int(dev is None), dev[1] if dev else 0
 
 
+def _text_in(kind: type, item: object) -> str | None:
+    """The string of what `packaging`, or one of its copies, has in place of this class; None where it is none."""
+    module = f"packaging.{kind.__module__.rpartition('.')[2]}"
+    for each in type(item).__mro__:
+        if each.__qualname__ == kind.__qualname__ and each.__module__.endswith(module):
+            return each.__str__(item)  # type: ignore[call-arg]
+    return None
+
+
 def _text_of_other(item: object) -> str:
     """The string of a version of `packaging`, or of one of its copies."""
-    for each in type(item).__mro__:
-        if each.__qualname__ == "Version" and each.__module__.endswith("packaging.version"):
-            return each.__str__(item)  # type: ignore[call-arg]
-    raise TypeError(f"expected a str or a Version, not {type(item)!r}")
+    text = _text_in(Version, item)
+    if text is None:
+        raise TypeError(f"expected a str or a Version, not {type(item)!r}")
+    return text
+
+
+def _twin_of(kind: type, item: object) -> Any:
+    """What this class reads of the string of its like in `packaging`; `NotImplemented` where there is no such string, or it is none here."""
+    text = _text_in(kind, item)
+    try:
+        return NotImplemented if text is None else kind(text)
+    except ValueError:
+        return NotImplemented
