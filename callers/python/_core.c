@@ -121,7 +121,36 @@ static PyObject *restore(Specifiers *self, PyObject *state)
     Py_RETURN_NONE;
 }
 
+/* What copy.deepcopy makes. */
+static PyObject *copied_by_python(PyObject *it, PyObject *memo)
+{
+    PyObject *module = PyImport_ImportModule("copy"), *made = module ? PyObject_CallMethod(module, "deepcopy", "OO", it, memo) : NULL;
+    Py_XDECREF(module);
+    return made;
+}
+
+/* A copy of a specifier, or of a set with copies of its members. */
+static PyObject *deep_copy(Specifiers *self, PyObject *memo)
+{
+    Specifiers *made = (Specifiers *)specifiers_copy(self, NULL);
+    Py_ssize_t count = made && !is_specifier(made) && made->members && PyTuple_Check(made->members) ? PyTuple_Size(made->members) : 0;
+    PyObject *members = count ? PyTuple_New(count) : NULL;
+    if (made && !is_specifier(made) && made->members && !PyTuple_Check(made->members) && !kept_in(&made->members, copied_by_python(made->members, memo)))
+        Py_CLEAR(made); /* a frozenset, by 25 */
+    for (Py_ssize_t place = 0; members && place < count; place++) {
+        PyObject *each = PyTuple_GetItem(made->members, place);
+        each = (PyObject *)Py_TYPE(each) == member_class ? specifiers_copy((Specifiers *)each, NULL) : copied_by_python(each, memo);
+        if (!each || PyTuple_SetItem(members, place, each) < 0)
+            Py_CLEAR(members);
+    }
+    if (count && !kept_in(&made->members, members))
+        Py_CLEAR(made);
+    return (PyObject *)made;
+}
+
 #define STATES \
+    {"__copy__", CALL(specifiers_copy), METH_NOARGS, "A copy, of a set with the same members."}, \
+    {"__deepcopy__", CALL(deep_copy), METH_O, "A copy, of a set with copies of its members."}, \
     {"__getstate__", CALL(state_of), METH_NOARGS, "What a copy is made of, as `packaging` has it."}, \
     {"__setstate__", CALL(restore), METH_O, "Reads what a copy is made of."}
 
@@ -184,6 +213,7 @@ static PyGetSetDef specifier_values[] = {
 static PyGetSetDef set_values[] = {
     PRERELEASES,
     {"_specs", (getter)get_members, (setter)assign_members, "The members.", NULL},
+    {"_is_unsatisfiable", (getter)get_unsatisfiable, (setter)set_unsatisfiable, "Whether it is unsatisfiable, if that was asked before, else None.", NULL},
     {"_sorted_specs", (getter)get_sorted, NULL, "The members as they are compared.", NULL},
     {NULL, NULL, NULL, NULL, NULL}};
 

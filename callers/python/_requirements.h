@@ -12,8 +12,6 @@ typedef struct {
 
 enum { DEEPEST = 20 };
 
-static int is_letter_or_digit(char it) { return (it >= 'a' && it <= 'z') || (it >= '0' && it <= '9') || (it >= 'A' && it <= 'Z'); }
-
 static int is_of_word(char it) { return is_letter_or_digit(it) || it == '_'; }
 
 static void skip_blanks(const char **at)
@@ -469,14 +467,6 @@ static PyObject *evaluate_marker(PyObject *module, PyObject *const *args, Py_ssi
 }
 
 /* ---- names of projects */
-
-/* A byte of a normalized name: letters are small, and `_` and `.` are `-`. */
-static char normal_byte(char it)
-{
-    if (it >= 'A' && it <= 'Z')
-        return (char)(it - 'A' + 'a');
-    return it == '_' || it == '.' ? '-' : it;
-}
 
 /* Writes the name without a second `-` behind another one; its length. */
 static Py_ssize_t write_name(const char *name, Py_ssize_t length, char *out)

@@ -15,7 +15,7 @@ typedef struct {
     PyObject *key; /* its sort key, or what was set in its place */
     PyObject *parts;
     PyObject *normal;
-    PyObject *prints; /* (public, base, local), or None where all of it is the base */
+    PyObject *prints; /* (public, base, local, its segments), or None where all of it is the base */
     uint8_t *compiled; /* `few`, or a block of its own */
     size_t length;
     uint64_t word;    /* or its hash */
@@ -277,6 +277,16 @@ static PyObject *raise_by(uint8_t status, PyObject *version, PyObject *list)
     if (status == PEP440_OUT_OF_MEMORY)
         return PyErr_NoMemory();
     return PyErr_Format(PyExc_SystemError, "pep440: no such status here: %d", (int)status);
+}
+
+static int is_letter_or_digit(char it) { return (it >= 'a' && it <= 'z') || (it >= '0' && it <= '9') || (it >= 'A' && it <= 'Z'); }
+
+/* A byte of a normalized name: letters are small, and `_` and `.` are `-`. */
+static char normal_byte(char it)
+{
+    if (it >= 'A' && it <= 'Z')
+        return (char)(it - 'A' + 'a');
+    return it == '_' || it == '.' ? '-' : it;
 }
 
 /* ---- arguments of calls */

@@ -16,7 +16,7 @@ from collections import namedtuple
 
 from . import _core
 from ._core import InvalidSpecifier
-from .version import InvalidVersion, Version, _remove_held_slots, _set_attributes, _split_state, _state_by_26, _state_of, _text_of_other, _twin_of
+from .version import InvalidVersion, Version, _remove_held_slots, _set_attributes, _split_state, _copy_by_state, _state_by_26, _state_of, _text_of_other, _twin_of
 
 __all__ = ["BaseSpecifier", "Bound", "InvalidSpecifier", "Specifier", "SpecifierSet"]
 
@@ -282,6 +282,7 @@ def _contains_by_name(self: Specifier | SpecifierSet, item: UnparsedVersion) -> 
 def _note_changes(cls: Any, base: type[Specifier | SpecifierSet], asked: list[str]) -> None:
     """Says of a subclass whether it has any of these of its own, and has `in` ask its own `contains`."""
     _remove_held_slots(cls)
+    _copy_by_state(cls)
     cls._is_changed = any(getattr(cls, it) is not getattr(base, it) for it in asked)
     if cls.contains is not base.contains and cls.__contains__ is base.__contains__:
         cls.__contains__ = _contains_by_name
@@ -512,6 +513,12 @@ class SpecifierSet(_core.HeldSet, BaseSpecifier, metaclass=_Called):
         >>> SpecifierSet(">=2,<1").is_unsatisfiable(), SpecifierSet("==1a1", prereleases=False).is_unsatisfiable()
         (True, True)
         """
+        known = self._is_unsatisfiable
+        if known is None:
+            known = self._is_unsatisfiable = self._has_no_member()
+        return known
+
+    def _has_no_member(self) -> bool:
         plain = [it for it in self._specs if it.operator != "==="]
         texts = {it.version.lower() for it in self._specs if it.operator == "==="}
         if not texts:

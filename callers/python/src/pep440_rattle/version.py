@@ -145,6 +145,13 @@ def _remove_held_slots(cls: type) -> None:
             delattr(cls, name)
 
 
+def _copy_by_state(cls: type) -> None:
+    """Has `copy` make one of a subclass, unless it has copies of its own, of the state, with what the subclass holds."""
+    for name in ("__copy__", "__deepcopy__"):
+        if getattr(getattr(cls, name), "__objclass__", None) is not None:
+            setattr(cls, name, None)
+
+
 def _state_of(it: object, own: dict[str, Any]) -> _State:
     """What a copy is made of: this, the attributes, and what is in slots of subclasses."""
     slots = {name: getattr(it, name) for name in copyreg._slotnames(type(it)) if hasattr(it, name)}  # type: ignore[attr-defined]
@@ -182,6 +189,7 @@ def _set_attributes(it: object, attributes: dict[str, Any], slots: dict[str, Any
 def _init_subclass(cls: type[Version], /, **named: object) -> None:
     super(Version, cls).__init_subclass__(**named)
     _remove_held_slots(cls)
+    _copy_by_state(cls)
     is_changed = any(getattr(cls, it) is not getattr(Version, it) for it in _PRINTED)
     # a subclass that has such a property prints it, unless it prints itself
     if is_changed and cls.__str__ is Version.__str__:
@@ -377,8 +385,8 @@ _OF_PYTHON = {
     "_state_by_python": _get_state,
     "_restore_by_python": _set_state,
     "__match_args__": ("_str",),
-    "__replace__": _replace,
-    "from_parts": classmethod(_from_parts),
+    "_replace_by_python": _replace,
+    "_from_parts_by_python": classmethod(_from_parts),
     "_str": property(_text),
     "_version": property(_get_parts, _assign_parts),
     "_key": property(_get_key, _set_key),
