@@ -90,7 +90,7 @@ static PyObject *state_of(Specifiers *self, PyObject *unused)
     if (!follows_26 || (class != member_class && class != set_class))
         return PyObject_CallMethod((PyObject *)self, "_state_by_python", NULL);
     read = is_specifier(self) ? spec_of(self) : listed_members(self);
-    return read ? Py_BuildValue("OO", read, self->said) : NULL;
+    return read ? PyTuple_Pack(2, read, self->said) : NULL;
 }
 
 /* Whether it has a tuple of so many strings, or of any number of specifiers where these are fewer than none. */
@@ -162,7 +162,25 @@ static PyMethodDef specifier_calls[] = {
     FILTERED,
     {NULL, NULL, 0, NULL}};
 
+/* Whether a set is unsatisfiable, which Python finds, and of one of no subclass once. */
+static PyObject *is_unsatisfiable(Specifiers *self, PyObject *unused)
+{
+    long asked_at = times_set;
+    PyObject *found;
+    if (self->unsatisfiable >= 0 && self->asked_at == asked_at)
+        return PyBool_FromLong(self->unsatisfiable);
+    found = PyObject_CallMethod((PyObject *)self, "_has_no_member", NULL);
+    ask_again(self);
+    if (found && asked_at == times_set && (PyObject *)Py_TYPE((PyObject *)self) == set_class)
+        self->unsatisfiable = found == Py_True;
+    return found;
+}
+
 static PyMethodDef set_calls[] = {
+    {"is_unsatisfiable", CALL(is_unsatisfiable), METH_NOARGS,
+     "is_unsatisfiable($self, /)\n--\n\n"
+     "Whether no version is contained, nor with `===` a string; where pre-releases are forbidden, whether none but these is.\n\n"
+     ">>> SpecifierSet(\">=2,<1\").is_unsatisfiable(), SpecifierSet(\"==1a1\", prereleases=False).is_unsatisfiable()\n(True, True)"},
     STATES,
     {"contains", CALL(set_contains), METH_FASTCALL | METH_KEYWORDS,
      CONTAINS_HEAD(", installed=None")
@@ -213,7 +231,6 @@ static PyGetSetDef specifier_values[] = {
 static PyGetSetDef set_values[] = {
     PRERELEASES,
     {"_specs", (getter)get_members, (setter)assign_members, "The members.", NULL},
-    {"_is_unsatisfiable", (getter)get_unsatisfiable, (setter)set_unsatisfiable, "Whether it is unsatisfiable, if that was asked before, else None.", NULL},
     {"_sorted_specs", (getter)get_sorted, NULL, "The members as they are compared.", NULL},
     {NULL, NULL, NULL, NULL, NULL}};
 

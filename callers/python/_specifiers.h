@@ -699,21 +699,6 @@ static PyObject *get_compiled(Specifiers *self, void *unused)
     return PyBytes_FromStringAndSize((const char *)list.bytes, (Py_ssize_t)list.length);
 }
 
-/* Whether a set is unsatisfiable, once this was found, else None; of a subclass nothing is kept. */
-static PyObject *get_unsatisfiable(Specifiers *self, void *unused)
-{
-    if (self->unsatisfiable < 0 || self->asked_at != times_set)
-        Py_RETURN_NONE;
-    return PyBool_FromLong(self->unsatisfiable);
-}
-
-static int set_unsatisfiable(Specifiers *self, PyObject *value, void *unused)
-{
-    ask_again(self);
-    self->unsatisfiable = (PyObject *)Py_TYPE((PyObject *)self) == set_class ? value == Py_True : -1;
-    return 0;
-}
-
 /* A copy of one that is of no subclass; of a set with the same members. */
 static PyObject *specifiers_copy(Specifiers *self, PyObject *unused)
 {

@@ -537,7 +537,7 @@ typedef struct {
     int is_left; /* it is left to Python */
 } Text;
 
-static void add_bytes(Text *text, const char *bytes, size_t length)
+static inline void add_bytes(Text *text, const char *bytes, size_t length)
 {
     text->is_left |= length > sizeof text->bytes - text->length;
     if (text->is_left)
@@ -546,7 +546,8 @@ static void add_bytes(Text *text, const char *bytes, size_t length)
     text->length += length;
 }
 
-static void add_number(Text *text, PyObject *given)
+/* Adds what is no small number. */
+__attribute__((noinline)) static void add_great_number(Text *text, PyObject *given)
 {
     char digits[24];
     size_t at = sizeof digits;
@@ -557,6 +558,26 @@ static void add_number(Text *text, PyObject *given)
         digits[--at] = (char)('0' + number % 10);
     while (number /= 10);
     add_bytes(text, digits + at, sizeof digits - at);
+}
+
+static inline void add_number(Text *text, PyObject *given)
+{
+    long number = PyLong_CheckExact(given) ? PyLong_AsLong(given) : -1;
+    if (number < 0 || number > 9 || text->length == sizeof text->bytes) {
+        PyErr_Clear();
+        add_great_number(text, given);
+    } else
+        text->bytes[text->length++] = (char)('0' + number);
+}
+
+/* Adds an epoch, which most have not. */
+static inline void add_epoch(Text *text, PyObject *given)
+{
+    add_number(text, given);
+    if (text->length == 1 && text->bytes[0] == '0')
+        text->length = 0;
+    else
+        add_bytes(text, "!", 1);
 }
 
 static void add_str(Text *text, PyObject *given)
@@ -605,8 +626,7 @@ static void write_state(Text *text, PyObject *state)
     text->is_left = !PyTuple_CheckExact(state) || PyTuple_Size(state) != PARTS;
     if (text->is_left)
         return;
-    add_number(text, PyTuple_GetItem(state, EPOCH));
-    add_bytes(text, "!", 1);
+    add_epoch(text, PyTuple_GetItem(state, EPOCH));
     add_numbers(text, PyTuple_GetItem(state, RELEASE), 0);
     add_named(text, "", PyTuple_GetItem(state, PRE));
     add_named(text, ".", PyTuple_GetItem(state, OF_POST));
@@ -615,13 +635,6 @@ static void write_state(Text *text, PyObject *state)
         return;
     add_bytes(text, "+", 1);
     add_numbers(text, PyTuple_GetItem(state, OF_LOCAL), 1);
-}
-
-/* What was written, without an epoch of 0, which most have. */
-static PyObject *str_of_written(const Text *text)
-{
-    size_t start = text->bytes[0] == '0' && text->bytes[1] == '!' ? 2 : 0;
-    return PyUnicode_FromStringAndSize(text->bytes + start, (Py_ssize_t)(text->length - start));
 }
 
 /* Reads the version of a state; Python reads that of a subclass, or of another form. */
@@ -635,7 +648,7 @@ static PyObject *held_restore(Held *self, PyObject *state)
         write_state(&text, state);
     if (text.is_left)
         return PyObject_CallMethod((PyObject *)self, "_restore_by_python", "(O)", state);
-    given = str_of_written(&text);
+    given = PyUnicode_FromStringAndSize(text.bytes, (Py_ssize_t)text.length);
     done = given ? read_version(self, given, 0) : -1;
     Py_XDECREF(given);
     if (done < 0)
@@ -695,8 +708,7 @@ static void write_parts(Text *text, PyObject *const *parts)
     const char *kind = "a";
     text->length = 0;
     text->is_left = 0;
-    add_number(text, parts[EPOCH]);
-    add_bytes(text, "!", 1);
+    add_epoch(text, parts[EPOCH]);
     add_numbers(text, parts[RELEASE], 0);
     if (parts[PRE] != Py_None) {
         kind = PyTuple_CheckExact(parts[PRE]) && PyTuple_Size(parts[PRE]) == 2 && PyUnicode_CheckExact(PyTuple_GetItem(parts[PRE], 0))
@@ -713,7 +725,7 @@ static void write_parts(Text *text, PyObject *const *parts)
 /* The version of a text that is not left, or NULL without an error. */
 static PyObject *made_of_text(const Text *text)
 {
-    PyObject *given = str_of_written(text);
+    PyObject *given = PyUnicode_FromStringAndSize(text->bytes, (Py_ssize_t)text->length);
     Held *made = given ? empty_version((PyObject *)HeldType) : NULL;
     if (made && read_version(made, given, 1) < 0)
         Py_CLEAR(made);

@@ -92,7 +92,7 @@ class Variable(Node):
     __slots__ = ()
 
     def serialize(self) -> str:
-        return str(self)
+        return self.value
 
 
 class Value(Node):
@@ -100,17 +100,17 @@ class Value(Node):
 
     def serialize(self) -> str:
         if '"' not in self.value or not follows_26_3():
-            return f'"{self}"'
+            return f'"{self.value}"'
         if "'" in self.value:
             raise ValueError("Cannot serialize marker value containing both quote characters")
-        return f"'{self}'"
+        return f"'{self.value}'"
 
 
 class Op(Node):
     __slots__ = ()
 
     def serialize(self) -> str:
-        return str(self)
+        return self.value
 
 
 # What the extension makes markers of.

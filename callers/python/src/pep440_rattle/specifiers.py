@@ -507,18 +507,8 @@ class SpecifierSet(_core.HeldSet, BaseSpecifier, metaclass=_Called):
 
     # ---- how sets relate, by `packaging` 26
 
-    def is_unsatisfiable(self) -> bool:
-        """Whether no version is contained, nor with `===` a string; where pre-releases are forbidden, whether none but these is.
-
-        >>> SpecifierSet(">=2,<1").is_unsatisfiable(), SpecifierSet("==1a1", prereleases=False).is_unsatisfiable()
-        (True, True)
-        """
-        known = self._is_unsatisfiable
-        if known is None:
-            known = self._is_unsatisfiable = self._has_no_member()
-        return known
-
     def _has_no_member(self) -> bool:
+        """What `is_unsatisfiable` returns."""
         plain = [it for it in self._specs if it.operator != "==="]
         texts = {it.version.lower() for it in self._specs if it.operator == "==="}
         if not texts:

@@ -170,11 +170,14 @@ def parse_sdist_filename(filename: str) -> tuple[NormalizedName, Version]:
 
     Raises `InvalidSdistFilename` where the string is no name of one.
     """
-    ending = next((each for each in (".tar.gz", ".zip") if filename.endswith(each)), None)
-    if not ending:
+    if filename.endswith(".tar.gz"):
+        stem = filename[: -len(".tar.gz")]
+    elif filename.endswith(".zip"):
+        stem = filename[: -len(".zip")]
+    else:
         raise InvalidSdistFilename(f"Invalid sdist filename (extension must be '.tar.gz' or '.zip'): {filename!r}")
     # no version has a dash in a name of a file
-    name, dash, version = filename[: -len(ending)].rpartition("-")
+    name, dash, version = stem.rpartition("-")
     if not dash:
         raise InvalidSdistFilename(f"Invalid sdist filename: {filename!r}")
     if follows_26_3() and not name:
