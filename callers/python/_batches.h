@@ -584,7 +584,7 @@ static void filter_free(Filter *self)
     Py_DECREF(type);
 }
 
-/* The mark of what is given for a version; what is neither a version nor a str is none. -1 with an error. */
+/* The mark of what is given for a version; what is neither a version nor a str is none by 26.3. -1 with an error. */
 static int mark_given(const Filter *self, PyObject *given)
 {
     pep440_string list = {self->compiled, self->length}, text;
@@ -600,7 +600,7 @@ static int mark_given(const Filter *self, PyObject *given)
     } else if ((held = text_of(given, &text))) {
         status = mark_text(list, &self->words, text, &mark);
         Py_DECREF(held);
-    } else if (PyErr_ExceptionMatches(PyExc_TypeError)) {
+    } else if (follows_26_3 && PyErr_ExceptionMatches(PyExc_TypeError)) {
         PyErr_Clear();
         status = PEP440_OK;
     }

@@ -57,17 +57,19 @@ static PyObject *without_set(const char *compiled, Py_ssize_t length)
 
 static PyObject *compile_list(PyObject *module, PyObject *list) { return made_of_list(pep440_compile_list, list, without_set); }
 
-/* behave(follows_26) */
-static PyObject *behave(PyObject *module, PyObject *flag)
+/* behave(follows_26, follows_26_3) */
+static PyObject *behave(PyObject *module, PyObject *const *args, Py_ssize_t count)
 {
-    int follows = PyObject_IsTrue(flag);
-    if (follows < 0)
+    int follows, follows_newer;
+    if (!has_count("behave", count, 2) || (follows = PyObject_IsTrue(args[0])) < 0 || (follows_newer = PyObject_IsTrue(args[1])) < 0)
         return NULL;
-    follows_26 = follows;
+    follows_26 = follows, follows_26_3 = follows_newer;
     Py_RETURN_NONE;
 }
 
 static PyObject *get_behaviour(PyObject *module, PyObject *unused) { return PyBool_FromLong(follows_26); }
+
+static PyObject *get_newer_behaviour(PyObject *module, PyObject *unused) { return PyBool_FromLong(follows_26_3); }
 
 #define CALL(function) (PyCFunction)(void (*)(void))function
 #define CONTAINS_HEAD(more) "contains($self, /, item, prereleases=None" more ")\n--\n\n"
@@ -79,14 +81,107 @@ static PyObject *get_behaviour(PyObject *module, PyObject *unused) { return PyBo
     {"_kept", CALL(keep_contained), METH_FASTCALL, \
      "_kept(items, prereleases, skip_invalid, places=None): those that are contained, or what stands in their places; None where Python is to compare"}
 
+/* ---- copies and pickles, in the form of `packaging` 26.2: what is read, (operator, version) or members, and what was said of pre-releases */
+
+/* What a copy of a specifier or a set is made of; Python says it of a subclass, and by 25. */
+static PyObject *state_of(Specifiers *self, PyObject *unused)
+{
+    PyObject *class = (PyObject *)Py_TYPE((PyObject *)self), *read;
+    if (!follows_26 || (class != member_class && class != set_class))
+        return PyObject_CallMethod((PyObject *)self, "_state_by_python", NULL);
+    read = is_specifier(self) ? spec_of(self) : listed_members(self);
+    return read ? PyTuple_Pack(2, read, self->said) : NULL;
+}
+
+/* Whether it has a tuple of so many strings, or of any number of specifiers where these are fewer than none. */
+static int is_state(PyObject *state, Py_ssize_t strings)
+{
+    PyObject *read = PyTuple_CheckExact(state) && PyTuple_Size(state) == 2 ? PyTuple_GetItem(state, 0) : NULL;
+    Py_ssize_t count = read && PyTuple_CheckExact(read) ? PyTuple_Size(read) : -1, place = 0;
+    if (count < 0 || (strings >= 0 && count != strings))
+        return 0;
+    while (place < count && (strings < 0 ? (PyObject *)Py_TYPE(PyTuple_GetItem(read, place)) == member_class : PyUnicode_CheckExact(PyTuple_GetItem(read, place))))
+        place++;
+    return place == count;
+}
+
+/* Reads what a copy is made of; Python reads that of a subclass, or of another form. */
+static PyObject *restore(Specifiers *self, PyObject *state)
+{
+    PyObject *class = (PyObject *)Py_TYPE((PyObject *)self), *read, *given;
+    int is_member = class == member_class, done;
+    if ((!is_member && class != set_class) || !is_state(state, is_member ? 2 : -1))
+        return PyObject_CallMethod((PyObject *)self, "_restore_by_python", "(O)", state);
+    read = PyTuple_GetItem(state, 0);
+    given = is_member ? PyUnicode_Concat(PyTuple_GetItem(read, 0), PyTuple_GetItem(read, 1)) : Py_NewRef(read);
+    done = !given ? -1 : (is_member ? read_specifier : read_set)(self, given, PyTuple_GetItem(state, 1));
+    Py_XDECREF(given);
+    if (done < 0)
+        return NULL;
+    Py_RETURN_NONE;
+}
+
+/* What copy.deepcopy makes. */
+static PyObject *copied_by_python(PyObject *it, PyObject *memo)
+{
+    PyObject *module = PyImport_ImportModule("copy"), *made = module ? PyObject_CallMethod(module, "deepcopy", "OO", it, memo) : NULL;
+    Py_XDECREF(module);
+    return made;
+}
+
+/* A copy of a specifier, or of a set with copies of its members. */
+static PyObject *deep_copy(Specifiers *self, PyObject *memo)
+{
+    Specifiers *made = (Specifiers *)specifiers_copy(self, NULL);
+    Py_ssize_t count = made && !is_specifier(made) && made->members && PyTuple_Check(made->members) ? PyTuple_Size(made->members) : 0;
+    PyObject *members = count ? PyTuple_New(count) : NULL;
+    if (made && !is_specifier(made) && made->members && !PyTuple_Check(made->members) && !kept_in(&made->members, copied_by_python(made->members, memo)))
+        Py_CLEAR(made); /* a frozenset, by 25 */
+    for (Py_ssize_t place = 0; members && place < count; place++) {
+        PyObject *each = PyTuple_GetItem(made->members, place);
+        each = (PyObject *)Py_TYPE(each) == member_class ? specifiers_copy((Specifiers *)each, NULL) : copied_by_python(each, memo);
+        if (!each || PyTuple_SetItem(members, place, each) < 0)
+            Py_CLEAR(members);
+    }
+    if (count && !kept_in(&made->members, members))
+        Py_CLEAR(made);
+    return (PyObject *)made;
+}
+
+#define STATES \
+    {"__copy__", CALL(specifiers_copy), METH_NOARGS, "A copy, of a set with the same members."}, \
+    {"__deepcopy__", CALL(deep_copy), METH_O, "A copy, of a set with copies of its members."}, \
+    {"__getstate__", CALL(state_of), METH_NOARGS, "What a copy is made of, as `packaging` has it."}, \
+    {"__setstate__", CALL(restore), METH_O, "Reads what a copy is made of."}
+
 static PyMethodDef specifier_calls[] = {
+    STATES,
     {"contains", CALL(specifier_contains), METH_FASTCALL | METH_KEYWORDS,
      CONTAINS_HEAD("") "Whether the version is contained; a pre-release only where `prereleases`, or else the attribute of that name, allows it."},
     KEPT,
     FILTERED,
     {NULL, NULL, 0, NULL}};
 
+/* Whether a set is unsatisfiable, which Python finds, and of one of no subclass once. */
+static PyObject *is_unsatisfiable(Specifiers *self, PyObject *unused)
+{
+    long asked_at = times_set;
+    PyObject *found;
+    if (self->unsatisfiable >= 0 && self->asked_at == asked_at)
+        return PyBool_FromLong(self->unsatisfiable);
+    found = PyObject_CallMethod((PyObject *)self, "_has_no_member", NULL);
+    ask_again(self);
+    if (found && asked_at == times_set && (PyObject *)Py_TYPE((PyObject *)self) == set_class)
+        self->unsatisfiable = found == Py_True;
+    return found;
+}
+
 static PyMethodDef set_calls[] = {
+    {"is_unsatisfiable", CALL(is_unsatisfiable), METH_NOARGS,
+     "is_unsatisfiable($self, /)\n--\n\n"
+     "Whether no version is contained, nor with `===` a string; where pre-releases are forbidden, whether none but these is.\n\n"
+     ">>> SpecifierSet(\">=2,<1\").is_unsatisfiable(), SpecifierSet(\"==1a1\", prereleases=False).is_unsatisfiable()\n(True, True)"},
+    STATES,
     {"contains", CALL(set_contains), METH_FASTCALL | METH_KEYWORDS,
      CONTAINS_HEAD(", installed=None")
      "Whether each member contains the version; a pre-release only where `prereleases`, or else the attribute of that name, allows it.\n\n"
@@ -107,15 +202,16 @@ static int have_own(PyObject *class, PyMethodDef *calls)
     return done;
 }
 
-/* use(member_class, set_class, reader_of_others, sorter_of_members) */
+/* use(member_class, set_class, reader_of_others, reader_of_twins, sorter_of_members) */
 static PyObject *use(PyObject *module, PyObject *const *args, Py_ssize_t count)
 {
-    if (!has_count("use", count, 4) || have_own(args[0], specifier_calls) < 0 || have_own(args[1], set_calls) < 0)
+    if (!has_count("use", count, 5) || have_own(args[0], specifier_calls) < 0 || have_own(args[1], set_calls) < 0)
         return NULL;
     call_quickly((PyTypeObject *)kept_in(&member_class, Py_NewRef(args[0])), specifier_call, (destructor)specifiers_free);
     call_quickly((PyTypeObject *)kept_in(&set_class, Py_NewRef(args[1])), set_call, (destructor)specifiers_free);
     kept_in(&reader_of_others, Py_NewRef(args[2]));
-    kept_in(&sorter_of_members, Py_NewRef(args[3]));
+    kept_in(&reader_of_twins, Py_NewRef(args[3]));
+    kept_in(&sorter_of_members, Py_NewRef(args[4]));
     Py_RETURN_NONE;
 }
 
@@ -202,13 +298,16 @@ static PyMethodDef calls[] = {
     {"is_subset", CALL(is_subset), METH_FASTCALL, "Whether each version of the first set is in the second."},
     {"compile_list", compile_list, METH_O, "The compiled list, of the string at once."},
     {"use", CALL(use), METH_FASTCALL,
-     "use(member, set, reader, sorter): the classes of members and of sets, what gives the strings of other libraries' versions, and the order of members."},
-    {"behave", behave, METH_O, "Has all of these types behave as those of packaging 26, or else of 25."},
+     "use(member, set, reader, twins, sorter): the classes of members and of sets, what gives the strings of other libraries' versions, what reads their "
+     "objects as these types, and the order of members."},
+    {"behave", CALL(behave), METH_FASTCALL, "behave(by_26, by_26_3): has all of these types behave as those of packaging 26, or else of 25, and of 26.3, or else of 26.2."},
     {"follows_26", get_behaviour, METH_NOARGS, "Whether these types behave as those of packaging 26, or else of 25."},
+    {"follows_26_3", get_newer_behaviour, METH_NOARGS, "Whether these types behave as those of packaging 26.3."},
     {"read_requirement", CALL(read_requirement), METH_FASTCALL, "The parts of a requirement, or None where its tokens are to be read."},
     {"read_marker", CALL(read_marker), METH_FASTCALL, "The comparisons of a marker, or None where its tokens are to be read."},
     {"evaluate_marker", CALL(evaluate_marker), METH_FASTCALL, "evaluate_marker(markers, environment, tools): whether it holds, by the rule of 26."},
     {"split_wheel", split_wheel, METH_O, "The normalized name, version, build and tags in the name of a wheel, or None where Python is to read it."},
+    {"is_normal_name", is_normal_name, METH_O, "Whether it is the normalized name of a project by 26.3, or None where Python is to say it."},
     {"normal_name", normal_name, METH_O, "The normalized name of a project, or None where Python is to make it."},
     {"sort", sort, METH_O, "The items in the order of their versions."},
     {"sort_keys", sort_keys, METH_O, "The sort key of each item."},

@@ -12,8 +12,6 @@ typedef struct {
 
 enum { DEEPEST = 20 };
 
-static int is_letter_or_digit(char it) { return (it >= 'a' && it <= 'z') || (it >= '0' && it <= '9') || (it >= 'A' && it <= 'Z'); }
-
 static int is_of_word(char it) { return is_letter_or_digit(it) || it == '_'; }
 
 static void skip_blanks(const char **at)
@@ -470,14 +468,6 @@ static PyObject *evaluate_marker(PyObject *module, PyObject *const *args, Py_ssi
 
 /* ---- names of projects */
 
-/* A byte of a normalized name: letters are small, and `_` and `.` are `-`. */
-static char normal_byte(char it)
-{
-    if (it >= 'A' && it <= 'Z')
-        return (char)(it - 'A' + 'a');
-    return it == '_' || it == '.' ? '-' : it;
-}
-
 /* Writes the name without a second `-` behind another one; its length. */
 static Py_ssize_t write_name(const char *name, Py_ssize_t length, char *out)
 {
@@ -504,6 +494,20 @@ static PyObject *normal_name(PyObject *module, PyObject *given)
     if (written == length && !memcmp(name, out, (size_t)length))
         return Py_NewRef(given);
     return PyUnicode_FromStringAndSize(out, written);
+}
+
+/* is_normal_name(name): whether a str of ASCII has small letters and digits, with one `-` between them; else None */
+static PyObject *is_normal_name(PyObject *module, PyObject *given)
+{
+    Py_ssize_t length = 0, at = 0;
+    const char *name = PyUnicode_CheckExact(given) ? PyUnicode_AsUTF8AndSize(given, &length) : NULL;
+    if (!name || length != PyUnicode_GetLength(given)) {
+        PyErr_Clear();
+        Py_RETURN_NONE;
+    }
+    while (at < length && ((is_letter_or_digit(name[at]) && normal_byte(name[at]) == name[at]) || (name[at] == '-' && at && name[at - 1] != '-')))
+        at++;
+    return PyBool_FromLong(length && at == length && name[length - 1] != '-');
 }
 
 /* canonicalize_name(name, *, validate=False) of a module that has `_canonicalize_by_python`, which takes all but a short str of ASCII alone. */

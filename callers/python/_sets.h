@@ -103,11 +103,11 @@ static int contains(Specifiers *self, PyObject *item, int excludes)
 /* Whether it stands for what `asked_item` was given. */
 static int is_no_version(PyObject *item) { return PyUnicode_Check(item) && PyUnicode_GetLength(item) == 0; }
 
-/* What is asked for, as `item_of` has it; by 26 what is of another type is the empty string, which is no version. */
+/* What is asked for, as `item_of` has it; by 26.3 what is of another type is the empty string, which is no version. */
 static PyObject *asked_item(PyObject *given)
 {
     PyObject *item = item_of(given);
-    if (item || !follows_26 || !PyErr_ExceptionMatches(PyExc_TypeError))
+    if (item || !follows_26_3 || !PyErr_ExceptionMatches(PyExc_TypeError))
         return item;
     PyErr_Clear();
     return PyUnicode_FromString("");
@@ -577,8 +577,10 @@ static PyObject *set_compare(PyObject *left, PyObject *right, int operation)
 {
     int is_set = PyObject_TypeCheck(right, HeldSetType), is_text = PyUnicode_Check(right) || PyObject_TypeCheck(right, HeldSpecifierType);
     PyObject *text, *other, *one, *two, *answer = NULL;
-    if ((operation != Py_EQ && operation != Py_NE) || (!is_set && !is_text))
+    if (operation != Py_EQ && operation != Py_NE)
         Py_RETURN_NOTIMPLEMENTED;
+    if (!is_set && !is_text)
+        return compare_with_twin(set_class, left, right, operation);
     text = is_set ? Py_NewRef(right) : PyObject_Str(right);
     other = is_set || !text ? Py_XNewRef(text) : PyObject_CallFunctionObjArgs((PyObject *)HeldSetType, text, NULL);
     one = other ? Py_XNewRef(compared_members((Specifiers *)left)) : NULL;

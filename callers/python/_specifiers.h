@@ -19,6 +19,7 @@ typedef struct {
     long asked_at;       /* `times_set` when `allows` was found */
     signed char allows;  /* whether it allows pre-releases where nobody says so, or UNKNOWN; -1: not asked yet */
     signed char changed; /* whether Python is to compare (`is_changed`); -1: not asked yet */
+    signed char unsatisfiable; /* of a set: whether it is unsatisfiable, found at `asked_at`; -1: not asked yet */
     char is_sorted;      /* of a set: its members are as 26 compares them, in the order of their strings, each one once */
     Words words;         /* of what is compiled with its set */
     uint8_t few[48];
@@ -103,7 +104,7 @@ static inline void take(Specifiers *self, PyObject *text, PyObject *members, PyO
     while (self->said)
         drop_read(self);
     self->text = text, self->members = members, self->said = Py_NewRef(said);
-    self->asked_at = -1, self->allows = -1, self->changed = -1, self->is_sorted = 0, self->words.count = -1;
+    self->asked_at = -1, self->allows = -1, self->changed = -1, self->unsatisfiable = -1, self->is_sorted = 0, self->words.count = -1;
 }
 
 static int specifiers_traverse(Specifiers *self, visitproc visit, void *arg)
@@ -385,7 +386,7 @@ static int read_compiled(Specifiers *self, PyObject *given, PyObject *text, PyOb
     }
     Py_XDECREF(print);
     if (status == PEP440_INVALID_LIST)
-        raise_invalid(InvalidSpecifier, INVALID_SPECIFIER, given, text, pep440_specifier_error);
+        raise_invalid(InvalidSpecifier, given, text, pep440_specifier_error);
     else
         raise_by(status, NULL, NULL);
     return -1;
@@ -570,7 +571,7 @@ static PyObject *specifier_compare(PyObject *left, PyObject *right, int operatio
     if (!is_same && PyObject_TypeCheck(right, HeldSpecifierType) && (is_same = PyObject_IsInstance(right, (PyObject *)Py_TYPE(left))) < 0)
         return NULL;
     if (!is_same && !PyUnicode_Check(right))
-        Py_RETURN_NOTIMPLEMENTED;
+        return compare_with_twin(member_class, left, right, operation);
     other = is_same ? Py_NewRef(right) : PyObject_CallFunctionObjArgs((PyObject *)Py_TYPE(left), right, NULL);
     if (!other && PyErr_ExceptionMatches(InvalidSpecifier)) {
         PyErr_Clear();
@@ -621,6 +622,13 @@ static int list_requests_prereleases(pep440_string list)
     return -1;
 }
 
+/* Forgets what was found before `prereleases` of any specifier was set. */
+static void ask_again(Specifiers *self)
+{
+    if (self->asked_at != times_set)
+        self->allows = self->unsatisfiable = -1, self->asked_at = times_set;
+}
+
 /* Whether some member allows pre-releases, asked again once `prereleases` of any specifier was set. */
 static int some_allows(Specifiers *self)
 {
@@ -634,7 +642,7 @@ static int some_allows(Specifiers *self)
     if (!self->members) {
         found = list_requests_prereleases(list_of(self));
         if (found >= 0)
-            self->asked_at = asked_at, self->allows = (signed char)found;
+            ask_again(self), self->allows = (signed char)found;
         return found;
     }
     members = Py_NewRef(self->members);
@@ -648,7 +656,7 @@ static int some_allows(Specifiers *self)
     if (PyErr_Occurred())
         found = -1;
     else if (self->members == members)
-        self->asked_at = asked_at, self->allows = (signed char)found;
+        ask_again(self), self->asked_at = asked_at, self->allows = (signed char)found;
     Py_XDECREF(all);
     Py_DECREF(members);
     return found;
@@ -691,6 +699,27 @@ static PyObject *get_compiled(Specifiers *self, void *unused)
     return PyBytes_FromStringAndSize((const char *)list.bytes, (Py_ssize_t)list.length);
 }
 
+/* A copy of one that is of no subclass; of a set with the same members. */
+static PyObject *specifiers_copy(Specifiers *self, PyObject *unused)
+{
+    PyObject *class = (PyObject *)Py_TYPE((PyObject *)self);
+    Specifiers *made = is_read(self) ? new_specifiers(class) : NULL;
+    if (!made)
+        return NULL;
+    take(made, Py_XNewRef(self->text), Py_XNewRef(self->members), self->said);
+    if (!is_specifier(self))
+        made->source = Py_XNewRef(self->source);
+    else if (self->compiled) { /* one whose text is not enough to compile it */
+        made->compiled = keep(self->compiled, self->length, made->few, sizeof made->few);
+        made->length = self->length;
+        if (!made->compiled) {
+            Py_DECREF((PyObject *)made);
+            return PyErr_NoMemory();
+        }
+    }
+    return (PyObject *)made;
+}
+
 static PyObject *get_said(Specifiers *self, void *unused) { return is_read(self) ? Py_NewRef(self->said) : NULL; }
 
 static int set_prereleases(Specifiers *self, PyObject *value, void *unused)
@@ -701,6 +730,7 @@ static int set_prereleases(Specifiers *self, PyObject *value, void *unused)
     if (!value || !is_read(self))
         return -1;
     self->said = Py_NewRef(value);
+    self->unsatisfiable = -1;
     times_set += is_specifier(self);
     Py_DECREF(old);
     return 0;

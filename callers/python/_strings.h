@@ -3,8 +3,9 @@
 static PyObject *InvalidVersion, *InvalidSpecifier;
 static PyTypeObject *HeldType, *HeldSpecifierType, *HeldSetType;
 
-/* Whether these types behave as those of `packaging` 26, and not as those of 25: the default, which `behave` changes for the whole process. */
-static int follows_26 = 1;
+/* Whether these types behave as those of `packaging` 26, and not as those of 25, and whether as those of 26.3: the default, which `behave` changes for the
+   whole process. */
+static int follows_26 = 1, follows_26_3 = 1;
 
 /* A version: its string as it was given, its word or, where it has none, once it was asked for its hash, and what was asked for before: its sort key,
    its parts, its normalized form, what is cut from this, and its compiled form. `text` is NULL until `__init__` has read a string. */
@@ -14,7 +15,7 @@ typedef struct {
     PyObject *key; /* its sort key, or what was set in its place */
     PyObject *parts;
     PyObject *normal;
-    PyObject *prints; /* (public, base, local), or None where all of it is the base */
+    PyObject *prints; /* (public, base, local, its segments), or None where all of it is the base */
     uint8_t *compiled; /* `few`, or a block of its own */
     size_t length;
     uint64_t word;    /* or its hash */
@@ -142,6 +143,30 @@ static inline PyObject *stripped(PyObject *given, pep440_string *view)
 /* What gives the string of another library's version, or raises TypeError: set by the module of versions. */
 static PyObject *reader_of_others;
 
+/* What reads one of these types of the text of one of another library, (type, object), or gives NotImplemented: set by the module of versions. */
+static PyObject *reader_of_twins;
+
+/* Whether it may be an object of another library: its type is made by Python, and none of these. */
+static int may_be_of_other(PyObject *it)
+{
+    return PyType_GetFlags(Py_TYPE(it)) & Py_TPFLAGS_HEAPTYPE && !PyObject_TypeCheck(it, HeldType) && !PyObject_TypeCheck(it, HeldSpecifierType) &&
+           !PyObject_TypeCheck(it, HeldSetType);
+}
+
+/* Compares by `==` or `!=` one of this type with one of another library, as of what is read of its text. */
+static PyObject *compare_with_twin(PyObject *type, PyObject *left, PyObject *right, int operation)
+{
+    PyObject *twin, *answer;
+    if ((operation != Py_EQ && operation != Py_NE) || !may_be_of_other(right) || !reader_of_twins)
+        Py_RETURN_NOTIMPLEMENTED;
+    twin = PyObject_CallFunctionObjArgs(reader_of_twins, type, right, NULL);
+    if (!twin || twin == Py_NotImplemented)
+        return twin;
+    answer = PyObject_RichCompare(left, twin, operation);
+    Py_DECREF(twin);
+    return answer;
+}
+
 /* What is given for a version as a str or a version of these: after this, reading it runs no code of the caller. */
 static inline PyObject *item_of(PyObject *given)
 {
@@ -195,26 +220,43 @@ static PyObject *written_by(Writer call, pep440_string text, Maker make, uint8_t
     return made;
 }
 
-/* A str of lines without the end of the last one. */
-static PyObject *lines_of(const char *bytes, Py_ssize_t length)
+/* Why a list is none, without the list again, which stands behind that with a mark below. */
+static PyObject *first_line_of(const char *bytes, Py_ssize_t length)
 {
-    return PyUnicode_FromStringAndSize(bytes, length > 0 && bytes[length - 1] == '\n' ? length - 1 : length);
+    const char *end = memchr(bytes, '\n', (size_t)length);
+    length = end ? end - bytes : length;
+    return PyUnicode_FromStringAndSize(bytes, length > 0 && bytes[length - 1] == ':' ? length - 1 : length);
 }
 
-static const char INVALID_VERSION[] = "Invalid version: %R: %U", INVALID_SPECIFIER[] = "Invalid specifier: %R\n%U";
-
-/* Raises the exception, which quotes one string and says why the other one, that was read, is invalid. */
-static PyObject *raise_invalid(PyObject *error, const char *form, PyObject *quoted, PyObject *given, Writer why)
+/* The reason in one line: it may quote any character of what was read. Takes the reference. */
+static PyObject *shown_in_line(PyObject *reason)
 {
+    PyObject *answer = PyObject_CallMethod(reason, "isprintable", NULL), *bytes, *made = NULL;
+    int is_printable = answer ? PyObject_IsTrue(answer) : -1;
+    Py_XDECREF(answer);
+    if (is_printable > 0)
+        return reason;
+    bytes = is_printable == 0 ? PyUnicode_AsUnicodeEscapeString(reason) : NULL;
+    if (bytes)
+        made = PyUnicode_FromEncodedObject(bytes, "ascii", NULL);
+    Py_XDECREF(bytes);
+    Py_DECREF(reason);
+    return made;
+}
+
+/* Raises the exception, which quotes one string and says behind it why the other one, that was read, is invalid. */
+static PyObject *raise_invalid(PyObject *error, PyObject *quoted, PyObject *given, Writer why)
+{
+    Maker make = why == pep440_list_error ? first_line_of : PyUnicode_FromStringAndSize;
     pep440_string text;
     uint8_t status = PEP440_OK;
     PyObject *reason;
     if (view(given, &text) < 0)
         return NULL;
     reason = text.bytes == NO_TEXT ? PyUnicode_FromString("it has a character that none has")
-                                   : written_by(why, text, lines_of, &status);
-    if (reason)
-        PyErr_Format(error, form, str_of(quoted), reason);
+                                   : written_by(why, text, make, &status);
+    if (reason && (reason = shown_in_line(reason)))
+        PyErr_Format(error, error == InvalidVersion ? "Invalid version: %R: %U" : "Invalid specifier: %R: %U", str_of(quoted), reason);
     else if (!PyErr_Occurred())
         PyErr_NoMemory();
     Py_XDECREF(reason);
@@ -227,14 +269,24 @@ static PyObject *raise_by(uint8_t status, PyObject *version, PyObject *list)
     if (PyErr_Occurred())
         return NULL;
     if (status == PEP440_INVALID_VERSION && version)
-        return raise_invalid(InvalidVersion, INVALID_VERSION, version, version, pep440_version_error);
+        return raise_invalid(InvalidVersion, version, version, pep440_version_error);
     if ((status == PEP440_INVALID_LIST || status == PEP440_NO_LIST) && list)
-        return raise_invalid(InvalidSpecifier, INVALID_SPECIFIER, list, list, pep440_list_error);
+        return raise_invalid(InvalidSpecifier, list, list, pep440_list_error);
     if (status == PEP440_NUMBER_AT_MAX && list)
         return PyErr_Format(PyExc_OverflowError, "no ranges of %R: a bound lies above 18446744073709551615", str_of(list));
     if (status == PEP440_OUT_OF_MEMORY)
         return PyErr_NoMemory();
     return PyErr_Format(PyExc_SystemError, "pep440: no such status here: %d", (int)status);
+}
+
+static int is_letter_or_digit(char it) { return (it >= 'a' && it <= 'z') || (it >= '0' && it <= '9') || (it >= 'A' && it <= 'Z'); }
+
+/* A byte of a normalized name: letters are small, and `_` and `.` are `-`. */
+static char normal_byte(char it)
+{
+    if (it >= 'A' && it <= 'Z')
+        return (char)(it - 'A' + 'a');
+    return it == '_' || it == '.' ? '-' : it;
 }
 
 /* ---- arguments of calls */

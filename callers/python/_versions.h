@@ -24,10 +24,10 @@ static int raise_no_str(PyObject *given)
     return -1;
 }
 
-/* The same of what is given for a version, in place of which `packaging` 26 has an error of its own. */
+/* The same of what is given for a version, in place of which `packaging` 26.3 has an error of its own. */
 static int raise_no_version(PyObject *given)
 {
-    if (!follows_26)
+    if (!follows_26_3)
         return raise_no_str(given);
     PyErr_Format(InvalidVersion, "Invalid version: %R", given);
     return -1;
@@ -216,7 +216,7 @@ __attribute__((noinline)) static PyObject *compare_held(PyObject *left, PyObject
     Held *one = (Held *)left, *other = (Held *)right; /* the left one is a version, since its type has this call */
     int order;
     if (Py_TYPE(right) != Py_TYPE(left) && !PyObject_TypeCheck(right, HeldType))
-        Py_RETURN_NOTIMPLEMENTED;
+        return compare_with_twin((PyObject *)HeldType, left, right, operation);
     if (!is_initialised(one) || !is_initialised(other))
         return NULL;
     if (one->has_own_key || other->has_own_key)
@@ -303,16 +303,49 @@ static PyObject *normal_of(Held *self)
     return kept_in(&self->normal, normal);
 }
 
-enum { PUBLIC, BASE, LOCAL };
+/* A segment of a local part: a number, or a string in lower case. */
+static PyObject *make_segment(const char *start, Py_ssize_t length)
+{
+    PyObject *text = PyUnicode_FromStringAndSize(start, length), *number;
+    const char *digits = text ? PyUnicode_AsUTF8AndSize(text, NULL) : NULL;
+    if (digits && strspn(digits, "0123456789") < (size_t)length)
+        return text;
+    number = digits ? PyLong_FromString(digits, NULL, 10) : NULL;
+    Py_XDECREF(text);
+    return number;
+}
 
-/* (public, base, local) of a normalized form, or None where all of it is the base: before the first `+` stands the public one, behind it the local
+/* The segments of a normalized local part. */
+static PyObject *segments_of(PyObject *local)
+{
+    Py_ssize_t length = 0, count = 1, place = 0;
+    const char *at = PyUnicode_AsUTF8AndSize(local, &length), *end, *point;
+    PyObject *made, *segment;
+    if (!at)
+        return NULL;
+    end = at + length;
+    for (point = at; (point = memchr(point, '.', (size_t)(end - point))); point++)
+        count++;
+    made = PyTuple_New(count);
+    for (; made && place < count; place++, at = point + 1) {
+        point = memchr(at, '.', (size_t)(end - at));
+        segment = make_segment(at, (point ? point : end) - at);
+        if (!segment || PyTuple_SetItem(made, place, segment) < 0)
+            Py_CLEAR(made);
+    }
+    return made;
+}
+
+enum { PUBLIC, BASE, LOCAL, SEGMENTS };
+
+/* (public, base, local, its segments) of a normalized form, or None where all of it is the base: before the first `+` stands the public one, behind it the local
    part; epoch and release end before the first letter, and before the point of a `.post` or a `.dev`. */
 static PyObject *prints_of(PyObject *normal)
 {
     Py_ssize_t size = 0;
     const char *bytes = PyUnicode_AsUTF8AndSize(normal, &size), *plus;
     Py_ssize_t public_length, base = 0;
-    PyObject *public, *local;
+    PyObject *public, *local, *segments;
     if (!bytes)
         return NULL;
     plus = memchr(bytes, '+', (size_t)size);
@@ -325,8 +358,9 @@ static PyObject *prints_of(PyObject *normal)
         base--;
     public = plus ? PyUnicode_FromStringAndSize(bytes, public_length) : Py_NewRef(normal);
     local = plus ? PyUnicode_FromStringAndSize(plus + 1, size - public_length - 1) : Py_NewRef(Py_None);
+    segments = local && plus ? segments_of(local) : Py_NewRef(Py_None);
     /* no format with a `#`: before 3.13 Python takes it only of headers that rename this call, as those of 3.13 do not */
-    return Py_BuildValue("NNN", public, PyUnicode_FromStringAndSize(bytes, base), local);
+    return Py_BuildValue("NNNN", public, PyUnicode_FromStringAndSize(bytes, base), local, segments);
 }
 
 static PyObject *get_print(Held *self, void *place)
@@ -454,6 +488,328 @@ static int set_own_key(Held *self, PyObject *value, void *unused)
     return 0;
 }
 
+/* ---- copies and pickles, in the form of `packaging` 26.2: (epoch, release, pre, ("post", number), ("dev", number), local) */
+
+/* The part behind its name, or None. */
+static PyObject *named_part(PyObject **name, const char *text, PyObject *part)
+{
+    if (part == Py_None)
+        Py_RETURN_NONE;
+    return *name || (*name = PyUnicode_InternFromString(text)) ? PyTuple_Pack(2, *name, part) : NULL;
+}
+
+static PyObject *local_segments(Held *self)
+{
+    pep440_string text;
+    if (view_str(self->text, &text) < 0)
+        return NULL;
+    if (!memchr(text.bytes, '+', text.length))
+        Py_RETURN_NONE;
+    return get_print(self, (void *)SEGMENTS);
+}
+
+/* What a copy is made of; Python says it of a subclass, of one with a key of its own, and by 25. */
+static PyObject *held_state(Held *self, PyObject *unused)
+{
+    static PyObject *post_name, *dev_name;
+    PyObject *parts, *post, *dev, *local, *made = NULL;
+    if (!follows_26 || Py_TYPE((PyObject *)self) != HeldType || self->has_own_key)
+        return PyObject_CallMethod((PyObject *)self, "_state_by_python", NULL);
+    if (!part_of(self, EPOCH))
+        return NULL;
+    parts = Py_NewRef(self->parts);
+    post = named_part(&post_name, "post", PyTuple_GetItem(parts, POST));
+    dev = named_part(&dev_name, "dev", PyTuple_GetItem(parts, DEV));
+    local = local_segments(self);
+    if (post && dev && local)
+        made = PyTuple_Pack(6, PyTuple_GetItem(parts, EPOCH), PyTuple_GetItem(parts, RELEASE), PyTuple_GetItem(parts, PRE), post, dev, local);
+    Py_XDECREF(post);
+    Py_XDECREF(dev);
+    Py_XDECREF(local);
+    Py_DECREF(parts);
+    return made;
+}
+
+/* The string of a version that is written, in so many bytes at most. */
+typedef struct {
+    char bytes[256];
+    size_t length;
+    int is_left; /* it is left to Python */
+} Text;
+
+static inline void add_bytes(Text *text, const char *bytes, size_t length)
+{
+    text->is_left |= length > sizeof text->bytes - text->length;
+    if (text->is_left)
+        return;
+    memcpy(text->bytes + text->length, bytes, length);
+    text->length += length;
+}
+
+/* Adds what is no small number. */
+__attribute__((noinline)) static void add_great_number(Text *text, PyObject *given)
+{
+    char digits[24];
+    size_t at = sizeof digits;
+    unsigned long long number = PyLong_CheckExact(given) ? PyLong_AsUnsignedLongLong(given) : 0;
+    text->is_left |= !PyLong_CheckExact(given) || PyErr_Occurred() != NULL;
+    PyErr_Clear();
+    do
+        digits[--at] = (char)('0' + number % 10);
+    while (number /= 10);
+    add_bytes(text, digits + at, sizeof digits - at);
+}
+
+static inline void add_number(Text *text, PyObject *given)
+{
+    long number = PyLong_CheckExact(given) ? PyLong_AsLong(given) : -1;
+    if (number < 0 || number > 9 || text->length == sizeof text->bytes) {
+        PyErr_Clear();
+        add_great_number(text, given);
+    } else
+        text->bytes[text->length++] = (char)('0' + number);
+}
+
+/* Adds an epoch, which most have not. */
+static inline void add_epoch(Text *text, PyObject *given)
+{
+    add_number(text, given);
+    if (text->length == 1 && text->bytes[0] == '0')
+        text->length = 0;
+    else
+        add_bytes(text, "!", 1);
+}
+
+static void add_str(Text *text, PyObject *given)
+{
+    Py_ssize_t length = 0;
+    const char *bytes = PyUnicode_CheckExact(given) ? PyUnicode_AsUTF8AndSize(given, &length) : NULL;
+    text->is_left |= !bytes;
+    PyErr_Clear();
+    add_bytes(text, bytes ? bytes : "", (size_t)length);
+}
+
+/* Adds numbers, or as well strings where they are segments, with points between them. */
+static void add_numbers(Text *text, PyObject *given, int are_segments)
+{
+    Py_ssize_t count = PyTuple_CheckExact(given) ? PyTuple_Size(given) : 0;
+    text->is_left |= !count;
+    for (Py_ssize_t place = 0; place < count; place++) {
+        PyObject *each = PyTuple_GetItem(given, place);
+        if (place)
+            add_bytes(text, ".", 1);
+        if (are_segments && PyUnicode_CheckExact(each))
+            add_str(text, each);
+        else
+            add_number(text, each);
+    }
+}
+
+/* Adds a name and its number behind what stands between, if they are there. */
+static void add_named(Text *text, const char *between, PyObject *given)
+{
+    if (given == Py_None)
+        return;
+    text->is_left |= !PyTuple_CheckExact(given) || PyTuple_Size(given) != 2;
+    if (text->is_left)
+        return;
+    add_bytes(text, between, strlen(between));
+    add_str(text, PyTuple_GetItem(given, 0));
+    add_number(text, PyTuple_GetItem(given, 1));
+}
+
+/* Writes the version of a state in the form of 26.2, or leaves it to Python. */
+static void write_state(Text *text, PyObject *state)
+{
+    enum { OF_POST = 3, OF_DEV, OF_LOCAL, PARTS };
+    text->length = 0;
+    text->is_left = !PyTuple_CheckExact(state) || PyTuple_Size(state) != PARTS;
+    if (text->is_left)
+        return;
+    add_epoch(text, PyTuple_GetItem(state, EPOCH));
+    add_numbers(text, PyTuple_GetItem(state, RELEASE), 0);
+    add_named(text, "", PyTuple_GetItem(state, PRE));
+    add_named(text, ".", PyTuple_GetItem(state, OF_POST));
+    add_named(text, ".", PyTuple_GetItem(state, OF_DEV));
+    if (PyTuple_GetItem(state, OF_LOCAL) == Py_None)
+        return;
+    add_bytes(text, "+", 1);
+    add_numbers(text, PyTuple_GetItem(state, OF_LOCAL), 1);
+}
+
+/* Reads the version of a state; Python reads that of a subclass, or of another form. */
+static PyObject *held_restore(Held *self, PyObject *state)
+{
+    Text text;
+    PyObject *given;
+    int done;
+    text.is_left = 1;
+    if (Py_TYPE((PyObject *)self) == HeldType)
+        write_state(&text, state);
+    if (text.is_left)
+        return PyObject_CallMethod((PyObject *)self, "_restore_by_python", "(O)", state);
+    given = PyUnicode_FromStringAndSize(text.bytes, (Py_ssize_t)text.length);
+    done = given ? read_version(self, given, 0) : -1;
+    Py_XDECREF(given);
+    if (done < 0)
+        return NULL;
+    Py_RETURN_NONE;
+}
+
+/* A copy of one that is of no subclass. */
+static PyObject *held_copy(Held *self, PyObject *unused)
+{
+    Held *made = is_initialised(self) ? empty_version((PyObject *)HeldType) : NULL;
+    if (!made)
+        return NULL;
+    made->text = Py_NewRef(self->text);
+    made->key = self->has_own_key ? Py_NewRef(self->key) : NULL;
+    made->parts = Py_XNewRef(self->parts);
+    made->normal = Py_XNewRef(self->normal);
+    made->prints = Py_XNewRef(self->prints);
+    made->word = self->word;
+    made->is_by_word = self->is_by_word, made->has_hash = self->has_hash, made->has_own_key = self->has_own_key;
+    return (PyObject *)made;
+}
+
+/* ---- versions of parts */
+
+enum { LOCAL_PART = DEV + 1, ALL_PARTS };
+static const char *const PART_NAMES[] = {"epoch", "release", "pre", "post", "dev", "local"};
+
+/* Adds a name and its number behind a point. */
+static void add_suffix(Text *text, const char *name, PyObject *number)
+{
+    if (number == Py_None)
+        return;
+    add_bytes(text, name, strlen(name));
+    add_number(text, number);
+}
+
+/* Adds a local part that is written as it prints. */
+static void add_local(Text *text, PyObject *given)
+{
+    size_t start = text->length + 1;
+    if (given == Py_None)
+        return;
+    add_bytes(text, "+", 1);
+    add_str(text, given);
+    for (size_t at = start; !text->is_left && at < text->length; at++) {
+        char it = text->bytes[at], next = at + 1 < text->length ? text->bytes[at + 1] : '.';
+        text->is_left |= !(normal_byte(it) == it && is_letter_or_digit(it)) && (it != '.' || next == '.' || at == start);
+        text->is_left |= it == '0' && next != '.' && (at == start || text->bytes[at - 1] == '.');
+    }
+}
+
+/* Writes the version of these parts, or leaves it to Python, which says which one is none. */
+static void write_parts(Text *text, PyObject *const *parts)
+{
+    Py_ssize_t length = 0;
+    const char *kind = "a";
+    text->length = 0;
+    text->is_left = 0;
+    add_epoch(text, parts[EPOCH]);
+    add_numbers(text, parts[RELEASE], 0);
+    if (parts[PRE] != Py_None) {
+        kind = PyTuple_CheckExact(parts[PRE]) && PyTuple_Size(parts[PRE]) == 2 && PyUnicode_CheckExact(PyTuple_GetItem(parts[PRE], 0))
+                   ? PyUnicode_AsUTF8AndSize(PyTuple_GetItem(parts[PRE], 0), &length) : NULL;
+        PyErr_Clear();
+    }
+    text->is_left |= !kind || (strcmp(kind, "a") && strcmp(kind, "b") && strcmp(kind, "rc"));
+    add_named(text, "", parts[PRE]);
+    add_suffix(text, ".post", parts[POST]);
+    add_suffix(text, ".dev", parts[DEV]);
+    add_local(text, parts[LOCAL_PART]);
+}
+
+/* The version of a text that is not left, or NULL without an error. */
+static PyObject *made_of_text(const Text *text)
+{
+    PyObject *given = PyUnicode_FromStringAndSize(text->bytes, (Py_ssize_t)text->length);
+    Held *made = given ? empty_version((PyObject *)HeldType) : NULL;
+    if (made && read_version(made, given, 1) < 0)
+        Py_CLEAR(made);
+    Py_XDECREF(given);
+    return (PyObject *)made;
+}
+
+/* Places the named arguments among the parts. Whether each is one. */
+static int place_parts(PyObject *const *args, PyObject *names, PyObject **parts)
+{
+    for (Py_ssize_t turn = 0; names && turn < PyTuple_Size(names); turn++) {
+        int place = 0;
+        while (place < ALL_PARTS && PyUnicode_CompareWithASCIIString(PyTuple_GetItem(names, turn), PART_NAMES[place]))
+            place++;
+        if (place == ALL_PARTS)
+            return 0;
+        parts[place] = args[turn];
+    }
+    return 1;
+}
+
+/* Calls what Python has of a call. */
+static PyObject *by_python(PyObject *of, const char *name, PyObject *const *args, Py_ssize_t count, PyObject *names)
+{
+    PyObject *call = PyObject_GetAttrString(of, name), *made = call ? call_by(PyObject_Call, call, args, (size_t)count, names) : NULL;
+    Py_XDECREF(call);
+    return made;
+}
+
+/* from_parts(*, epoch=0, release, pre=None, post=None, dev=None, local=None) */
+static PyObject *held_from_parts(PyObject *type, PyObject *const *args, Py_ssize_t count, PyObject *names)
+{
+    PyObject *zero = PyLong_FromLong(0), *parts[ALL_PARTS] = {zero, NULL, Py_None, Py_None, Py_None, Py_None}, *made = NULL;
+    Text text;
+    text.is_left = !zero || count || type != (PyObject *)HeldType || !place_parts(args, names, parts) || !parts[RELEASE];
+    if (!text.is_left)
+        write_parts(&text, parts);
+    if (!text.is_left && !(made = made_of_text(&text)))
+        PyErr_Clear();
+    Py_XDECREF(zero);
+    return made ? made : by_python(type, "_from_parts_by_python", args, count, names);
+}
+
+/* __replace__(**parts): the same version where they are its own. */
+static PyObject *held_replace(Held *self, PyObject *const *args, Py_ssize_t count, PyObject *names)
+{
+    PyObject *parts[ALL_PARTS], *old[ALL_PARTS], *held, *made = NULL;
+    int is_new = 0;
+    Text text;
+    text.is_left = 1;
+    if (count || Py_TYPE((PyObject *)self) != HeldType || self->has_own_key || !part_of(self, EPOCH))
+        return PyErr_Occurred() ? NULL : by_python((PyObject *)self, "_replace_by_python", args, count, names);
+    held = Py_NewRef(self->parts);
+    for (int place = 0; place < LOCAL_PART; place++)
+        parts[place] = PyTuple_GetItem(held, place);
+    parts[LOCAL_PART] = get_print(self, (void *)LOCAL);
+    memcpy(old, parts, sizeof old);
+    if (parts[LOCAL_PART] && place_parts(args, names, parts))
+        write_parts(&text, parts);
+    for (int place = 0; !text.is_left && is_new == 0 && place < ALL_PARTS; place++)
+        is_new = parts[place] == old[place] ? 0 : PyObject_RichCompareBool(parts[place], old[place], Py_NE);
+    if (!text.is_left && is_new >= 0 && !(made = is_new ? made_of_text(&text) : Py_NewRef((PyObject *)self)))
+        PyErr_Clear();
+    Py_XDECREF(old[LOCAL_PART]);
+    Py_DECREF(held);
+    return made || PyErr_Occurred() ? made : by_python((PyObject *)self, "_replace_by_python", args, count, names);
+}
+
+#define HELD_CALL(function) (PyCFunction)(void (*)(void))function
+
+static PyMethodDef held_calls[] = {
+    {"__getstate__", HELD_CALL(held_state), METH_NOARGS, "What a copy is made of, as `packaging` has it."},
+    {"__setstate__", HELD_CALL(held_restore), METH_O, "Reads what a copy is made of."},
+    {"__copy__", HELD_CALL(held_copy), METH_NOARGS, "A copy."},
+    {"__deepcopy__", HELD_CALL(held_copy), METH_O, "A copy."},
+    {"__replace__", HELD_CALL(held_replace), METH_FASTCALL | METH_KEYWORDS,
+     "__replace__($self, /, **parts)\n--\n\n"
+     "The version with other parts in place of its own: `epoch`, `release`, `pre`, `post`, `dev` and `local`; None is no such part.\n\n"
+     ">>> Version(\"1.2.3\").__replace__(pre=(\"a\", 1))\n<Version('1.2.3a1')>\n\nRaises `InvalidVersion` where one of them is none."},
+    {"from_parts", HELD_CALL(held_from_parts), METH_FASTCALL | METH_KEYWORDS | METH_CLASS,
+     "from_parts($type, /, *, epoch=0, release, pre=None, post=None, dev=None, local=None)\n--\n\nThe version of these parts.\n\n"
+     ">>> Version.from_parts(release=(1, 2), pre=(\"alpha\", 1))\n<Version('1.2a1')>\n\nRaises `InvalidVersion` where one of them is none."},
+    {NULL, NULL, 0, NULL}};
+
 static PyObject *get_text(Held *self, void *unused) { return is_initialised(self) ? Py_NewRef(self->text) : NULL; }
 
 static PyGetSetDef held_values[] = {
@@ -480,7 +836,7 @@ static PyGetSetDef held_values[] = {
 
 static PyType_Slot held_slots[] = {{Py_tp_init, held_init},       {Py_tp_dealloc, held_free},        {Py_tp_hash, held_hash},
                                    {Py_tp_str, held_str},         {Py_tp_repr, held_repr},           {Py_tp_richcompare, held_compare},
-                                   {Py_tp_getset, held_values},   {Py_tp_doc, "Version(version)\n--\n\nA version, compiled."}, {0, NULL}};
+                                   {Py_tp_getset, held_values},   {Py_tp_methods, held_calls},       {Py_tp_doc, "Version(version)\n--\n\nA version, compiled."}, {0, NULL}};
 
 /* It holds nothing that may hold it, so the garbage collector need not see it. What Python has of it, its module sets. */
 static PyType_Spec held_spec = {"pep440_rattle.version.Version", sizeof(Held), 0, Py_TPFLAGS_DEFAULT | Py_TPFLAGS_BASETYPE, held_slots};

@@ -42,7 +42,7 @@ def is_fit(version):
 
 def behaviour_of(version):
     """The release whose behaviour these modules have in place of this one."""
-    return "26.3" if number_of(version) >= (26,) else "25.0"
+    return version.rpartition(" ")[2] if number_of(version) >= (26,) else "25.0"
 
 
 def folder_of_a_pip():
@@ -165,7 +165,7 @@ class By25:
 
 
 def follows_26():
-    return pep440_rattle.behaves_like == "26.3"
+    return pep440_rattle.behaves_like != "25.0"
 
 
 def is_beyond(text):

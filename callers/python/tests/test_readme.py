@@ -1,10 +1,12 @@
-"""What the README says: its table of departures from `packaging`, a test for each row by its name; of 25.0 and 26.3, here and there; and the names of 26.3."""
+"""What the README says: its table of departures from `packaging`, a test for each row by its name; of 25.0, 26.2 and 26.3, here and there; and the names of 26.3."""
 import copy
 import doctest
 import importlib.util
 import inspect
+import itertools
 import json
 import os
+import pickle
 import pkgutil
 import re
 import subprocess
@@ -70,6 +72,50 @@ MORE = [
     ('is_normalized_name("a--b")', 'True', 'False'),
     ('Marker("os_name == \'a\'").__reduce_ex__(2)[2]', "{'_markers': [(<Variable('os_name')>, <Op('==')>, <Value('a')>)]}", '\'os_name == "a"\''),
 ]
+# What 26.2 and 26.3 do otherwise than one another: an expression, by either.
+OF_26_2 = [
+    ('Requirement("requests>=2\\n")', "<Requirement('requests>=2')>", 'InvalidRequirement'),
+    ('Marker("(os_name == \'a\')\\n")', '<Marker(\'os_name == "a"\')>', 'InvalidMarker'),
+    ('str(Marker("os_name == \'a\' and (extra == \'B_c\')"))', '\'os_name == "a" and extra == "B_c"\'', '\'os_name == "a" and extra == "b-c"\''),
+    ('str(Marker("\'B_c\' in extras"))', '\'"B_c" in extras\'', '\'"b-c" in extras\''),
+    ('str(Marker("extra == os_name"))', '\'extra == "os-name"\'', "'extra == os_name'"),
+    ('Marker("extra == \'a\'").evaluate(context="requirement")', 'KeyError', 'UndefinedEnvironmentName'),
+    ('Marker("extras == \'a\'").evaluate(context="lock_file")', 'AssertionError', 'UndefinedComparison'),
+    ('str(Marker("((extra == \'a\' or os_name == \'b\')) and os_name == \'c\'"))', '\'extra == "a" or os_name == "b" and os_name == "c"\'', '\'(extra == "a" or os_name == "b") and os_name == "c"\''),
+    ('str(Marker("os_name == \'\\"\'"))', '\'os_name == """\'', '\'os_name == \\\'"\\\'\''),
+    ('Marker("os_name == \'\\\\x\'")', 'SyntaxError', 'InvalidMarker'),
+    ('Requirement("a===1,~=1")', 'InvalidSpecifier', 'InvalidRequirement'),
+    ('Requirement("a[B]") == Requirement("a[b]")', 'False', 'True'),
+    ('hash(Requirement("a==1")) == hash(Requirement("a==1.0"))', 'False', 'True'),
+    ('is_normalized_name("a--b")', 'True', 'False'),
+    ('parse_sdist_filename("-1.tar.gz")', "('', <Version('1')>)", 'InvalidSdistFilename'),
+    ('parse_wheel_filename("-1-py3-none-any.whl")[0]', "''", 'InvalidWheelFilename'),
+    ('Version(1)', 'TypeError', 'InvalidVersion'),
+    ('Version.from_parts(release=(1,), pre=(1, 1))', 'AttributeError', 'InvalidVersion'),
+    ('canonicalize_version(1)', 'TypeError', 'InvalidVersion'),
+    ('SpecifierSet(">=1").contains(1)', 'TypeError', 'False'),
+    ('list(SpecifierSet(">=1").filter(["1", 1]))', 'TypeError', "['1']"),
+    ('list(Specifier("===1").filter([1]))', 'TypeError', '[1]'),
+]
+# What is compared with the like of the other library.
+TWINS = {
+    ("version", "Version"): ["1.0", "1.0.0", "1.0+u", "1.0a1"],
+    ("specifiers", "Specifier"): [">=1.0", ">= 1.0.0", "~=1.0", "===x"],
+    ("specifiers", "SpecifierSet"): [">=1.0,<2", "<2.0,>=1", "", "===x"],
+    ("requirements", "Requirement"): ["a_b[c]>=1; os_name == 'a'", "A-b[c] >=1.0; os_name=='a'", "a-b", "a-b @ file:///c"],
+    ("markers", "Marker"): ["os_name == 'a'", "os_name=='a'", "os_name == 'b' and extra == 'c'"],
+}
+
+
+class LegacyVersion:
+    """As a release before 22 has it: no version by PEP 440."""
+
+    __module__ = "packaging.version"
+
+    def __str__(self):
+        return "1.0"
+
+
 # Imports the package in a second interpreter, of the kind that is given, and where `both` is given in the main one before; fails as the import does.
 SECOND = """
 import sys
@@ -165,6 +211,14 @@ class Departures(unittest.TestCase):
                 held.note = "mine"
             mine.note = "mine"
             self.assertEqual((copy.deepcopy(mine).note, mine), ("mine", held))
+        for kind, text, name in ((requirements.Requirement, "name>=1", "extra"), (markers.Marker, "os_name == 'a'", "marker")):
+            for release in ("25.0", "26.2", "26.3"):
+                pep440_rattle.behave_like(release)
+                held, mine = kind(text), type("Mine", (kind,), {})(text)
+                with self.assertRaises(AttributeError):
+                    setattr(held, name, "mine")
+                setattr(mine, name, "mine")
+                self.assertEqual([copy.copy(held), copy.deepcopy(held), pickle.loads(pickle.dumps(held))], [held] * 3)
 
     def test_properties(self):
         class Later(Version):
@@ -185,10 +239,22 @@ class Departures(unittest.TestCase):
     def test_other_objects(self):
         self.addCleanup(pep440_rattle.behave_like, "26.3")
         theirs = peer.load()[0]
-        self.assertNotEqual(Version("1.0"), theirs.Version("1.0"))
+        self.assertNotEqual(hash(Version("1.0")), hash(theirs.Version("1.0")))
+        package = theirs.__name__.rpartition(".")[0]
+        for (module, name), texts in TWINS.items():
+            mine, other = getattr(MODULES[module], name), getattr(importlib.import_module(f"{package}.{module}"), name)
+            self.assertNotIsInstance(mine(texts[0]), other)
+            for one, two in itertools.product(texts, texts):
+                left, right, is_equal = mine(one), other(two), other(one) == other(two)
+                with self.subTest(ours=one, theirs=two):
+                    self.assertEqual([left == right, right == left, left != right, right != left], [is_equal, is_equal, not is_equal, not is_equal])
+            self.assertFalse(mine(texts[0]) == type(name, (), {})() or mine(texts[0]) == LegacyVersion())
+        their_set = importlib.import_module(f"{package}.specifiers").SpecifierSet(">=1")
+        if pep440_rattle.behaves_like == "26.3":
+            self.assertEqual((their_set.contains(Version("1.0")), list(their_set.filter([Version("1.0")]))), (False, []))
         with self.assertRaises(TypeError):
             Version("1.0") < theirs.Version("2.0")
-        with self.assertRaises(InvalidVersion if peer.follows_26() else TypeError):
+        with self.assertRaises(InvalidVersion if pep440_rattle.behaves_like == "26.3" else TypeError):
             Version(theirs.Version("1.0"))
         # what is contained may be a version of either
         for kind in (Specifier, SpecifierSet):
@@ -224,7 +290,7 @@ class Departures(unittest.TestCase):
         self.assertRegex(str(caught.exception), r"^Invalid version: 'x': .+")
         with self.assertRaises(InvalidSpecifier) as caught:
             Specifier(">x")
-        self.assertRegex(str(caught.exception), r"^Invalid specifier: '>x'\n.+")
+        self.assertRegex(str(caught.exception), r"^Invalid specifier: '>x': .+")
 
     def test_one_interpreter(self):
         ours = "ImportError.*: pep440_rattle can be imported in the main interpreter alone"
@@ -280,6 +346,13 @@ class Changes(unittest.TestCase):
     def tearDown(self):
         pep440_rattle.behave_like("26.3")
 
+    def test_ours_of_26_2(self):
+        for text, *both in OF_26_2:
+            for release, wanted in zip(("26.2", "26.3"), both, strict=True):
+                pep440_rattle.behave_like(release)
+                with self.subTest(text=text, release=release):
+                    self.assertEqual(shown(text), wanted)
+
     def test_ours(self):
         self.assertGreater(len(rows()), 20)
         for text, by_25, by_26 in rows():
@@ -291,8 +364,8 @@ class Changes(unittest.TestCase):
 
     @unittest.skipUnless(os.environ.get("PEP440_RELEASES"), "PEP440_RELEASES names no folder of releases")
     def test_packaging(self):
-        for place, release in enumerate(("25.0", "26.3"), 1):
-            for row, found in zip(rows(), of_packaging(release, [row[0] for row in rows()]), strict=True):
+        for release, place, asked in (("25.0", 1, rows()), ("26.2", 1, OF_26_2), ("26.3", 2, [*rows(), *OF_26_2])):
+            for row, found in zip(asked, of_packaging(release, [row[0] for row in asked]), strict=True):
                 with self.subTest(text=row[0], release=release):
                     self.assertEqual(found, row[place])
 

@@ -1,4 +1,4 @@
-"""Requirements, markers and names of files beside `packaging` 25.0 or 26.3: parts, strings, errors with their texts, and what markers evaluate to."""
+"""Requirements, markers and names of files beside `packaging`: parts, strings, errors with their texts, and what markers evaluate to."""
 import collections
 import importlib
 import os
@@ -26,16 +26,8 @@ CONTEXTS = ["metadata", "lock_file", "requirement"]
 OF_MARKERS = ("requirement", "marker")
 CHANGES = {
     "24.2": [("variables of 25", OF_MARKERS, r"extras|dependency_groups")],
-    "26.2": [
-        ("names of extras and groups", OF_MARKERS, r"extras|dependency_groups"),
-        ("parentheses", OF_MARKERS, r"\("),
-        ("strings of Python", OF_MARKERS, r"[\\\n]"),
-        ("whole: newline at the end", OF_MARKERS, r"\n\Z"),
-        ("whole: commas behind ===", ("requirement",), r"===[^;]*,"),
-        ("whole: reason beside a star", ("requirement",), r"\.\*"),
-        ("whole: dashes beside one another", ("name",), "--"),
-        ("interpreters that are no identifiers", ("file",), r"(?:^|[-.])(?![^\W\d]\w*[-.])[^-.]*(?:\.[^-.]*)*-[^-]*-[^-]*\.whl\Z"),
-    ],
+    # of tags, which the swap leaves to the release
+    "26.2": [("interpreters that are no identifiers", ("file",), r"(?:^|[-.])(?![^\W\d]\w*[-.])[^-.]*(?:\.[^-.]*)*-[^-]*-[^-]*\.whl\Z")],
 }
 # What the extension reads alone.
 PLAIN = [
@@ -119,7 +111,8 @@ class Library:
     def requirement(self, text):
         it = self.requirements.Requirement(text)
         marker = it.marker and repr(it.marker._markers)
-        return it.name, it.extras, str(it.specifier), it.url, str(it.marker), repr(it), marker, it == self.requirements.Requirement(text)
+        again = self.requirements.Requirement(text.replace("1.0", "1.0.0", 1))
+        return it.name, it.extras, str(it.specifier), it.url, str(it.marker), repr(it), marker, it == again, hash(it) == hash(again)
 
     def marker(self, text, environment, *context):
         it = self.markers.Marker(text)
@@ -158,8 +151,7 @@ class AgainstPackaging(unittest.TestCase):
         names = ("requirements", "markers", "utils")
         self.theirs = Library(*(importlib.import_module(f"{package}.{name}") for name in names))
         self.ours = Library(*(importlib.import_module(f"pep440_rattle.{name}") for name in names))
-        # 24 knows no context, and 26.2 has another error where there is no variable
-        self.contexts = [] if self.release == "24.2" else ["metadata"] if self.release in CHANGES else CONTEXTS
+        self.contexts = [] if self.release == "24.2" else CONTEXTS  # 24 knows none
         self.cases, self.left_out = collections.Counter(), collections.Counter()
 
     @classmethod

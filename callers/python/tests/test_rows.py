@@ -124,6 +124,51 @@ class Versions(unittest.TestCase):
         self.assertEqual((str(version), version.release, version == Version("1.0a0"), hash(version)), ("1.0-alpha", (1, 0), True, hash(Version("1.0a"))))
 
 
+class Named(Version):
+    pass
+
+
+class NamedSet(SpecifierSet):
+    pass
+
+
+class States(unittest.TestCase):
+    """Copies, pickles and parts of versions."""
+
+    TEXTS = ("1.0", "0!1", "1!2.0rc1.post2.dev3+u.1", "1.dev0", "1+01.a", "0.0.0", f"1.{MOST}", f"1+{'a.' * 200}b", "1" * 19 + "." + "2.3" * 100)
+
+    def test_copies(self):
+        for kind in (Version, Named):
+            for text in self.TEXTS:
+                it = kind(text)
+                for made in (copy.copy(it), copy.deepcopy(it), *(pickle.loads(pickle.dumps(it, protocol)) for protocol in range(2, 6))):
+                    self.assertEqual((made, hash(made), str(made), type(made), made.local, made.release), (it, hash(it), str(it), kind, it.local, it.release))
+                    self.assertIsNot(made, it)
+        it = Named("1.0")
+        it.note = []
+        self.assertEqual([copy.copy(it).note is it.note, copy.deepcopy(it).note is it.note], [True, False])
+        it = Version("1.0")
+        it._key = (9,)
+        self.assertEqual(copy.copy(it)._key, (9,))
+
+    def test_states_that_are_none(self):
+        for state in (None, (), (0,) * 6, (0, (1,), None, None, None), (0, (), None, None, None, None), (-1, (1,), None, None, None, None)):
+            with self.assertRaises((TypeError, InvalidVersion), msg=repr(state)):
+                Version("1").__setstate__(state)
+
+    def test_parts(self):
+        """Made of its parts, and with each part of another one in its place, as the string says."""
+        versions = [*map(Version, self.TEXTS)]
+        for it in versions:
+            parts = {name: getattr(it, name) for name in ("epoch", "release", "pre", "post", "dev", "local")}
+            self.assertEqual(str(Version.from_parts(**parts)), str(it))
+            for name, value in parts.items():
+                for other in versions:
+                    made = other.__replace__(**{name: value})
+                    self.assertEqual({each: getattr(made, each) for each in parts}, {**{each: getattr(other, each) for each in parts}, name: value})
+                    self.assertEqual(made is other, getattr(other, name) == value)
+
+
 class Specifiers(unittest.TestCase):
     def test_contains(self):
         for text, version, wanted in CONTAINS:
@@ -201,6 +246,33 @@ class Specifiers(unittest.TestCase):
             with self.assertRaises(StopIteration if peer.follows_26() else InvalidVersion):
                 next(kept)
 
+    def test_copies(self):
+        """Copies are what they were made of: a set has the same members, and by `deepcopy` members of its own; those of a subclass have what it holds."""
+        texts = ("", ">=1", ">=1,<2,!=1.5.*", "===1.5", ">=1,===1.5", ">= 1 , <\t2", f"=={'1.' * 200}1", "~=1.0,==1.0+u")
+        several = [SpecifierSet(text, prereleases) for text in texts for prereleases in (None, True)]
+        several += [NamedSet(">=1"), SpecifierSet([Specifier(">=1", prereleases=True)])]
+        for it in [*several, *map(copy.deepcopy, several), *(each for it in several for each in it)]:
+            it_contains = [it.contains(each) for each in ("1.0", "1.5", "2a1")]
+            for made in (copy.copy(it), copy.deepcopy(it), pickle.loads(pickle.dumps(it))):
+                self.assertEqual((made, hash(made), type(made), repr(made)), (it, hash(it), type(it), repr(it)))
+                self.assertEqual([made.contains(each) for each in ("1.0", "1.5", "2a1")], it_contains)
+                self.assertIsNot(made, it)
+        it = SpecifierSet(">=1,<2")
+        member = next(iter(it))
+        self.assertEqual([member is each for made in (copy.copy(it), copy.deepcopy(it)) for each in made][::2], [True, False])
+        it = NamedSet(">=1")
+        it.note = []
+        self.assertEqual([copy.copy(it).note is it.note, copy.deepcopy(it).note is it.note], [True, False])
+
+    def test_unsatisfiable_again(self):
+        """It is found anew once pre-releases are forbidden, or allowed."""
+        it = SpecifierSet("==1a1")
+        found = []
+        for prereleases in (None, None, False, False, True, None):
+            it.prereleases = prereleases
+            found += [it.is_unsatisfiable(), it.is_unsatisfiable()]
+        self.assertEqual(found, [False] * 4 + [True] * 4 + [False] * 4)
+
     def test_refusals(self):
         for text in ("1.0", "==", "=1.0", ">=1.0.*", "~=1", ">=1.0+x", "== 1.0 2.0", ">= =1.0", "", " "):
             with self.assertRaises(InvalidSpecifier) as caught:
@@ -208,7 +280,11 @@ class Specifiers(unittest.TestCase):
             self.assertTrue(str(caught.exception).startswith(f"Invalid specifier: {text!r}"), caught.exception)
         with self.assertRaises(InvalidSpecifier) as caught:
             Specifier(" it's \n")
-        self.assertTrue(str(caught.exception).startswith('Invalid specifier: " it\'s \\n"\n'), caught.exception)
+        self.assertTrue(str(caught.exception).startswith('Invalid specifier: " it\'s \\n": '), caught.exception)
+        for kind, text in ((Version, "1.0\n\u2028\x1fx"), (Specifier, ">=1.0\n\u2028\x1fx"), (SpecifierSet, ">=1, <1\nx")):
+            with self.assertRaises(ValueError) as caught:
+                kind(text)
+            self.assertEqual(len(str(caught.exception).splitlines()), 1, caught.exception)
         with self.assertRaises(InvalidSpecifier):
             SpecifierSet(">=1.0, <x")
 

@@ -465,22 +465,21 @@ class Swaps(unittest.TestCase):
     def test_copies_of_two_behaviours(self):
         """The first one says how all behave, and one that behaves otherwise stays what it is."""
         with tempfile.TemporaryDirectory() as folder:
-            for package, release in (("packaging", "26.3"), ("mine/_vendor/packaging", "25.0"), ("yours/_vendor/packaging", "26.2")):
+            for package, release in (("packaging", "26.2"), ("mine/_vendor/packaging", "25.0"), ("yours/_vendor/packaging", "26.3")):
                 os.makedirs(os.path.join(folder, package))
                 write(os.path.join(folder, package, "__init__.py"), f'__version__ = "{release}"\n')
                 write(os.path.join(folder, package, "version.py"), "")
             program = "import pep440_rattle.swap as it; it.swap()\nfrom {0} import version as one\nfrom {1} import version as two\nimport pep440_rattle\n"
             program += "from yours._vendor.packaging import version\nprint(one.__name__, two.__name__, version.__name__, pep440_rattle.behaves_like)"
             packages = ["packaging", "mine._vendor.packaging"]
-            for names, behaves_like in ((packages, "26.3"), (packages[::-1], "25.0")):
-                third = "pep440_rattle.version" if behaves_like == "26.3" else "yours._vendor.packaging.version"
-                wanted = f"pep440_rattle.version {names[1]}.version {third} {behaves_like}\n"
+            for names, behaves_like in ((packages, "26.2"), (packages[::-1], "25.0")):
+                wanted = f"pep440_rattle.version {names[1]}.version yours._vendor.packaging.version {behaves_like}\n"
                 self.assertEqual(run(["-c", program.format(*names)], folder), (0, wanted, ""))
 
     def test_releases_that_were_not_tested(self):
         self.assertEqual(tuple(pep440_rattle.swap._TESTED), peer.RELEASES)
         self.assertEqual(list(pep440_rattle.swap._TESTED.values()), [*map(peer.behaviour_of, peer.RELEASES)])
-        imports = "import pep440_rattle.swap as it; it.swap(); import {0}packaging; print({0}packaging.__version__, flush=True); import {0}packaging.{1}"
+        imports = "import pep440_rattle.swap as it; it.swap(must=True); import {0}packaging; print({0}packaging.__version__, flush=True); import {0}packaging.{1}"
         with tempfile.TemporaryDirectory() as folder:
             for owner, way_out in (("", f"install packaging==26.3, {WITHOUT}"), ("mine._vendor.", f"a release of mine that has one of these, {WITHOUT}")):
                 package = os.path.join(folder, *owner.split("."), "packaging")
@@ -496,6 +495,23 @@ class Swaps(unittest.TestCase):
                             last = errors.splitlines()[-1] if errors else ""
                             told = [f"ImportError: {owner}packaging is release {release}, ", "24.1, 24.2, 25.0, 26.2, 26.3 alone", way_out]
                             self.assertEqual([it in last for it in told], [is_refused] * 3, last)
+
+    def test_releases_that_stay(self):
+        """Without the command, one that was not tested stays what it is, with one warning that names it."""
+        program = "import pep440_rattle.swap as it; it.swap()\nfrom packaging import version, specifiers\nprint(version.__name__, specifiers.__name__)"
+        with tempfile.TemporaryDirectory() as folder:
+            os.mkdir(os.path.join(folder, "packaging"))
+            for name in ("version", "specifiers"):
+                write(os.path.join(folder, "packaging", f"{name}.py"), "")
+            write(os.path.join(folder, "program.py"), program)
+            for release, ours, is_warned in (("26.4", False, True), ("26.0", False, True), ("23.0", False, True), ("21.3", False, False), ("24.1", True, False)):
+                write(os.path.join(folder, "packaging", "__init__.py"), f"__version__ = {release!r}\n")
+                status, said, errors = run(["program.py"], folder)
+                package = "pep440_rattle" if ours else "packaging"
+                with self.subTest(release=release):
+                    self.assertEqual((status, said), (0, f"{package}.version {package}.specifiers\n"), errors)
+                    warned = f"program.py:2: RuntimeWarning: packaging is release {release}, and pep440_rattle was tested in place of 24.1, 24.2, 25.0, 26.2, 26.3 alone, so it stays: "
+                    self.assertEqual((errors.count("RuntimeWarning"), warned in errors), (is_warned, is_warned), errors)
 
     def test_words(self):
         usage = "usage: python -m pep440_rattle.swap [-m] PROGRAM WORD..\n"

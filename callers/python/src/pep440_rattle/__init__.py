@@ -19,14 +19,14 @@ behaves_like = "26.3"
 
 
 def behave_like(release: str) -> None:
-    """Has all modules of this process behave like release 26.3 of `packaging` or like 25.0, which README.md compares.
+    """Has all modules of this process behave like release 26.3, 26.2 or 25.0 of `packaging`, which README.md compares.
 
     Call it before anything is made: versions and specifiers that are there already answer in part as before. Raises `ValueError` for any other release.
     """
     global behaves_like
-    if release not in ("25.0", "26.3"):
-        raise ValueError(f"there is the behaviour of 25.0 and of 26.3, and not of {release}")
-    _core.behave(release == "26.3")
+    if release not in ("25.0", "26.2", "26.3"):
+        raise ValueError(f"there is the behaviour of 25.0, 26.2 and 26.3, and not of {release}")
+    _core.behave(release != "25.0", release == "26.3")
     behaves_like = release
 
 __all__ = [

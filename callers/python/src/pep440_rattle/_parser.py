@@ -12,7 +12,7 @@ import re
 from typing import Any, NamedTuple, NoReturn, Union
 
 # by its whole name, since copies of `packaging` have this module under theirs (swap.py)
-from pep440_rattle._core import follows_26, read_marker
+from pep440_rattle._core import follows_26, follows_26_3, read_marker
 
 from .specifiers import Specifier
 
@@ -32,7 +32,7 @@ _QUOTED = r""" '[^']*' | "[^"]*" """
 _OPERATOR = r"===|==|~=|!=|<=|>=|<|>"
 
 _BLANK = re.compile(r"[ \t]+")
-_END, _END_BY_25 = re.compile(r"\Z"), re.compile("$")
+_END, _END_BY_26_2 = re.compile(r"\Z"), re.compile("$")
 _NAME = re.compile(_IDENTIFIER)
 _URL = re.compile(r"[^ \t]+")
 _STAR = re.compile(r"\.\*")
@@ -92,25 +92,25 @@ class Variable(Node):
     __slots__ = ()
 
     def serialize(self) -> str:
-        return str(self)
+        return self.value
 
 
 class Value(Node):
     __slots__ = ()
 
     def serialize(self) -> str:
-        if '"' not in self.value or not follows_26():
-            return f'"{self}"'
+        if '"' not in self.value or not follows_26_3():
+            return f'"{self.value}"'
         if "'" in self.value:
             raise ValueError("Cannot serialize marker value containing both quote characters")
-        return f"'{self}'"
+        return f"'{self.value}'"
 
 
 class Op(Node):
     __slots__ = ()
 
     def serialize(self) -> str:
-        return str(self)
+        return self.value
 
 
 # What the extension makes markers of.
@@ -141,8 +141,8 @@ class _Cursor:
         return token.match(self.source, self.position) is not None
 
     def is_at_end(self) -> bool:
-        """By 25 before a newline at the end, too."""
-        return self.is_at(_END if follows_26() else _END_BY_25)
+        """Before 26.3 before a newline at the end, too."""
+        return self.is_at(_END if follows_26_3() else _END_BY_26_2)
 
     def take(self, token: re.Pattern[str]) -> str | None:
         """The token, if it stands here; it is read then."""
@@ -261,7 +261,7 @@ def _parse_specifiers(cursor: _Cursor) -> str:
 
 
 def _why_no_star(token: str) -> str:
-    if follows_26() and (token.startswith("!=") or (token.startswith("==") and not token.startswith("==="))):
+    if follows_26_3() and (token.startswith("!=") or (token.startswith("==") and not token.startswith("==="))):
         return ".* suffix cannot be used with pre-release, post-release, dev or local versions"
     return ".* suffix can only be used with `==` or `!=` operators"
 
@@ -343,7 +343,7 @@ def _parse_operand(cursor: _Cursor) -> MarkerVar:
     try:
         return _make_value(value)
     except (SyntaxError, ValueError) as error:
-        if not follows_26():
+        if not follows_26_3():
             raise
         raise ParserSyntaxError("Invalid quoted string", source=cursor.source, span=(start, cursor.position)) from error
 

@@ -14,13 +14,14 @@ import re
 import sys
 from collections.abc import Callable, Mapping
 from collections.abc import Set as AbstractSet
-from typing import Any, Literal, TypedDict, Union, cast
+from typing import Any, Literal, TypedDict, Union
 
-from pep440_rattle._core import evaluate_marker, follows_26
+from pep440_rattle._core import evaluate_marker, follows_26, follows_26_3
 
 from ._parser import MarkerItem, MarkerList, Op, ParserSyntaxError, Value, Variable, parse_marker
 from .specifiers import InvalidSpecifier, Specifier
 from .utils import canonicalize_name
+from .version import _twin_of
 
 __all__ = ["Environment", "EvaluateContext", "InvalidMarker", "Marker", "UndefinedComparison", "UndefinedEnvironmentName", "default_environment"]
 
@@ -39,7 +40,7 @@ class UndefinedComparison(ValueError):
 
 
 class UndefinedEnvironmentName(KeyError, ValueError):
-    """A variable of a marker is not in the environment; by `packaging` 25 a plain `KeyError` is raised."""
+    """A variable of a marker is not in the environment; before `packaging` 26.3 a plain `KeyError` is raised."""
 
 
 class Environment(TypedDict):
@@ -85,13 +86,19 @@ def _read_once(name: str) -> str:
 
 
 def _read(name: str) -> str:
-    """A variable of this Python process, which by 26 is read once."""
-    return _read_once(name) if follows_26() else _READERS[name]()
+    """A variable of this Python process, which by 26.3 is read once."""
+    return _read_once(name) if follows_26_3() else _READERS[name]()
+
+
+# All of them, once they were asked for.
+_environment: dict[str, str] = {}
 
 
 def default_environment() -> Environment:
-    """The variables of this Python process."""
-    return cast(Environment, {name: _read(name) for name in _READERS})
+    """The variables of this Python process, which by 26.3 are read once."""
+    if not _environment or not follows_26_3():
+        _environment.update({name: _read(name) for name in _READERS})
+    return _environment.copy()  # type: ignore[return-value]
 
 
 class _Environment(dict[str, _Operand]):
@@ -99,15 +106,15 @@ class _Environment(dict[str, _Operand]):
 
     def __missing__(self, name: str) -> _Operand:
         if name not in _READERS:
-            raise UndefinedEnvironmentName(name) if follows_26() else KeyError(name)
+            raise UndefinedEnvironmentName(name) if follows_26_3() else KeyError(name)
         self[name] = value = _read(name)
         found = _repair(value) if name == "python_full_version" else value
-        if follows_26():
+        if follows_26_3():
             _known[name] = found
         return found
 
 
-# The variables of this process that some marker named, which by 26 are read once.
+# The variables of this process that some marker named, which by 26.3 are read once.
 _known: dict[str, str] = {}
 
 
@@ -133,17 +140,24 @@ def _normalize_extras(marker: Any) -> Any:
     return left, op, right
 
 
+def _normalize_extras_by_26_2(marker: Any) -> Any:
+    """The comparison with the normalized name of an extra, or of a variable in place of one."""
+    if not isinstance(marker, tuple):
+        return marker
+    left, op, right = marker
+    if isinstance(left, Variable) and left.value == "extra":
+        right = Value(canonicalize_name(right.value))
+    elif isinstance(right, Variable) and right.value == "extra":
+        left = Value(canonicalize_name(left.value))
+    return left, op, right
+
+
 def _normalize_extra_values(markers: MarkerList) -> MarkerList:
-    """The markers with the normalized names of extras: by 25 where the first comparison is with one."""
-    if follows_26():
+    """The markers with the normalized names of extras: by 26.2 of those that stand in no parentheses, by 25 of the first one."""
+    if follows_26_3():
         return [_normalize_extras(each) for each in markers]
-    if isinstance(markers[0], tuple):
-        left, op, right = markers[0]
-        if isinstance(left, Variable) and left.value == "extra":
-            markers[0] = left, op, Value(canonicalize_name(right.value))
-        elif isinstance(right, Variable) and right.value == "extra":
-            markers[0] = Value(canonicalize_name(left.value)), op, right
-    return markers
+    normalized = 1 if not follows_26() else len(markers)
+    return [*map(_normalize_extras_by_26_2, markers[:normalized]), *markers[normalized:]]
 
 
 def _normalize_marker(markers: MarkerList, source: str) -> MarkerList:
@@ -158,7 +172,7 @@ def _format_marker(marker: MarkerList | MarkerItem | str, first: bool = True) ->
     if isinstance(marker, tuple):
         return " ".join([node.serialize() for node in marker])
     if len(marker) == 1 and not isinstance(marker[0], str):
-        return _format_marker(marker[0], first or not follows_26())
+        return _format_marker(marker[0], first or not follows_26_3())
     inner = " ".join([_format_marker(each, first=False) for each in marker])
     return inner if first else f"({inner})"
 
@@ -240,7 +254,7 @@ def _evaluate_item(item: MarkerItem, environment: dict[str, _Operand]) -> bool:
         key = right.value
         lhs, rhs = left.value, environment[key]
     if not isinstance(lhs, str):
-        if not follows_26():
+        if not follows_26_3():
             raise AssertionError("lhs must be a string")
         raise UndefinedComparison(
             f'Set-valued marker {key!r} can only be used with the membership form (e.g. "<name>" in {key}); '
@@ -281,6 +295,7 @@ class Marker:
     'os_name == "posix" or os_name == "nt"'
     """
 
+    __slots__ = ("_markers",)
     _markers: MarkerList
 
     def __init__(self, marker: str) -> None:
@@ -291,7 +306,7 @@ class Marker:
             raise InvalidMarker(str(error)) from error
 
     def __getstate__(self) -> Any:
-        return str(self) if follows_26() else self.__dict__
+        return str(self) if follows_26() else {"_markers": self._markers, **getattr(self, "__dict__", {})}
 
     def __setstate__(self, state: Any) -> None:
         if isinstance(state, str):
@@ -303,7 +318,8 @@ class Marker:
         attributes = state[1] if isinstance(state, tuple) and len(state) == 2 else state
         if not isinstance(attributes, dict) or not isinstance(attributes.get("_markers"), list):
             raise TypeError(f"Cannot restore Marker from {state!r}")
-        self.__dict__.update(attributes)
+        for name, value in attributes.items():
+            setattr(self, name, value)
 
     @classmethod
     def _from_markers(cls, markers: MarkerList) -> Marker:
@@ -319,13 +335,17 @@ class Marker:
         """
         if not isinstance(other, Marker):
             return NotImplemented
-        return self._from_markers([self._markers, "and", other._markers])
+        made = self.__class__.__new__(self.__class__)
+        made._markers = [self._markers, "and", other._markers]
+        return made
 
     def __or__(self, other: Marker) -> Marker:
         """A marker that holds where one of both does."""
         if not isinstance(other, Marker):
             return NotImplemented
-        return self._from_markers([self._markers, "or", other._markers])
+        made = self.__class__.__new__(self.__class__)
+        made._markers = [self._markers, "or", other._markers]
+        return made
 
     def __str__(self) -> str:
         return _format_marker(self._markers)
@@ -338,8 +358,8 @@ class Marker:
 
     def __eq__(self, other: Any) -> bool:
         if not isinstance(other, Marker):
-            return NotImplemented
-        return str(self) == str(other)
+            other = _twin_of(Marker, other)
+        return NotImplemented if other is NotImplemented else str(self) == str(other)
 
     def evaluate(self, environment: Mapping[str, Any] | None = None, context: EvaluateContext = "metadata") -> bool:
         """Whether it holds, in the environment of this process but for the variables that are given.

@@ -10,12 +10,13 @@ from __future__ import annotations
 from collections.abc import Iterator
 from typing import Any
 
-from pep440_rattle._core import follows_26, read_requirement
+from pep440_rattle._core import follows_26, follows_26_3, read_requirement
 
 from ._parser import NODES, ParserSyntaxError, parse_requirement
 from .markers import Marker, _normalize_marker
 from .specifiers import InvalidSpecifier, SpecifierSet
 from .utils import canonicalize_name
+from .version import _twin_of
 
 __all__ = ["InvalidRequirement", "Requirement"]
 
@@ -35,6 +36,8 @@ class Requirement:
     True
     """
 
+    __slots__ = ("extras", "marker", "name", "specifier", "url")
+
     def __init__(self, requirement_string: str) -> None:
         try:
             parsed = read_requirement(requirement_string, NODES)
@@ -45,7 +48,7 @@ class Requirement:
         except ParserSyntaxError as error:
             raise InvalidRequirement(str(error)) from error
         except InvalidSpecifier as error:
-            if not follows_26():
+            if not follows_26_3():
                 raise
             raise InvalidRequirement(str(error)) from error
         name, url, extras, _, marker = parsed
@@ -76,13 +79,16 @@ class Requirement:
 
     def __getstate__(self) -> Any:
         if not follows_26():
-            return self.__dict__
+            names = ("name", "url", "extras", "specifier", "marker")
+            return {**{name: getattr(self, name) for name in names}, **getattr(self, "__dict__", {})}
         # 26.2 reads the string alone
-        return str(self) if self.specifier._prereleases is None else (str(self), self.specifier._prereleases)
+        prereleases = self.specifier._prereleases if follows_26_3() else None
+        return str(self) if prereleases is None else (str(self), prereleases)
 
     def __setstate__(self, state: Any) -> None:
         if isinstance(state, dict) and state.keys() >= {"extras", "marker", "name", "specifier", "url"}:
-            self.__dict__.update(state)
+            for name, value in state.items():
+                setattr(self, name, value)
             return
         text, prereleases = state if isinstance(state, tuple) and len(state) == 2 else (state, None)
         if not isinstance(text, str) or not (prereleases is None or isinstance(prereleases, bool)):
@@ -97,15 +103,15 @@ class Requirement:
         return f"<{self.__class__.__name__}({str(self)!r})>" if follows_26() else f"<Requirement('{self}')>"
 
     def __hash__(self) -> int:
-        if not follows_26():
+        if not follows_26_3():
             return hash((self.__class__.__name__, *self._parts(canonicalize_name(self.name))))
         return hash((canonicalize_name(self.name), self._compared_extras(), self.specifier, self.url, self.marker))
 
     def _compared_extras(self) -> frozenset[str]:
-        return frozenset(map(canonicalize_name, self.extras) if follows_26() else self.extras)
+        return frozenset(map(canonicalize_name, self.extras) if follows_26_3() else self.extras)
 
     def __eq__(self, other: Any) -> bool:
-        if not isinstance(other, Requirement):
+        if not isinstance(other, Requirement) and (other := _twin_of(Requirement, other)) is NotImplemented:
             return NotImplemented
         return (
             canonicalize_name(self.name) == canonicalize_name(other.name)

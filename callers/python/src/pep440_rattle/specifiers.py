@@ -16,7 +16,7 @@ from collections import namedtuple
 
 from . import _core
 from ._core import InvalidSpecifier
-from .version import InvalidVersion, Version, _remove_held_slots, _set_attributes, _split_state, _state_by_26, _state_of, _text_of_other
+from .version import InvalidVersion, Version, _remove_held_slots, _set_attributes, _split_state, _copy_by_state, _state_by_26, _state_of, _text_of_other, _twin_of
 
 __all__ = ["BaseSpecifier", "Bound", "InvalidSpecifier", "Specifier", "SpecifierSet"]
 
@@ -108,8 +108,12 @@ def _version_or_none(item: object) -> Version | None:
     """The version that is given, or None where it is none."""
     try:
         return _version_of(item)  # type: ignore[arg-type]
-    except (InvalidVersion, TypeError):
+    except InvalidVersion:
         return None
+    except TypeError:
+        if _core.follows_26_3():
+            return None
+        raise
 
 
 def _is_normal(text: str) -> bool:
@@ -278,6 +282,7 @@ def _contains_by_name(self: Specifier | SpecifierSet, item: UnparsedVersion) -> 
 def _note_changes(cls: Any, base: type[Specifier | SpecifierSet], asked: list[str]) -> None:
     """Says of a subclass whether it has any of these of its own, and has `in` ask its own `contains`."""
     _remove_held_slots(cls)
+    _copy_by_state(cls)
     cls._is_changed = any(getattr(cls, it) is not getattr(base, it) for it in asked)
     if cls.contains is not base.contains and cls.__contains__ is base.__contains__:
         cls.__contains__ = _contains_by_name
@@ -338,10 +343,10 @@ class Specifier(_core.HeldSpecifier, BaseSpecifier, metaclass=_Called):
         asked = ["contains", "operator", "version", "prereleases", "__str__", "_get_operator", *map("_compare_{}".format, cls._operators.values())]
         _note_changes(cls, Specifier, asked)
 
-    def __getstate__(self) -> Any:
+    def _state_by_python(self) -> Any:
         return _get_state(self, spec=self._spec, prereleases=self._prereleases)
 
-    def __setstate__(self, state: Any) -> None:
+    def _restore_by_python(self, state: Any) -> None:
         try:
             attributes, slots = _split_state({"_spec": state[0], "_prereleases": state[1]} if _is_of_26(state, tuple) else state)
             text, prereleases = "".join(attributes.pop("_spec")), attributes.pop("_prereleases")
@@ -465,10 +470,10 @@ class SpecifierSet(_core.HeldSet, BaseSpecifier, metaclass=_Called):
         super().__init_subclass__(**named)
         _note_changes(cls, SpecifierSet, ["prereleases"])
 
-    def __getstate__(self) -> Any:
+    def _state_by_python(self) -> Any:
         return _get_state(self, specs=self._specs, prereleases=self._prereleases)
 
-    def __setstate__(self, state: Any) -> None:
+    def _restore_by_python(self, state: Any) -> None:
         try:
             attributes, slots = _split_state({"_specs": state[0], "_prereleases": state[1]} if _is_of_26(state, tuple) else state)
             members, prereleases = attributes.pop("_specs"), attributes.pop("_prereleases")
@@ -502,12 +507,8 @@ class SpecifierSet(_core.HeldSet, BaseSpecifier, metaclass=_Called):
 
     # ---- how sets relate, by `packaging` 26
 
-    def is_unsatisfiable(self) -> bool:
-        """Whether no version is contained, nor with `===` a string; where pre-releases are forbidden, whether none but these is.
-
-        >>> SpecifierSet(">=2,<1").is_unsatisfiable(), SpecifierSet("==1a1", prereleases=False).is_unsatisfiable()
-        (True, True)
-        """
+    def _has_no_member(self) -> bool:
+        """What `is_unsatisfiable` returns."""
         plain = [it for it in self._specs if it.operator != "==="]
         texts = {it.version.lower() for it in self._specs if it.operator == "==="}
         if not texts:
@@ -625,4 +626,4 @@ def _sorted_members(members: Iterable[Specifier]) -> tuple[Specifier, ...]:
     return tuple(dict.fromkeys(sorted(members, key=str)))
 
 
-_core.use(Specifier, SpecifierSet, _text_of_other, _sorted_members)
+_core.use(Specifier, SpecifierSet, _text_of_other, _twin_of, _sorted_members)

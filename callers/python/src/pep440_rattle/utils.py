@@ -7,7 +7,7 @@ import re
 import sys
 from typing import TYPE_CHECKING, Any, NewType, Union, cast
 
-from pep440_rattle._core import follows_26, make_name_call, normal_name, split_wheel
+from pep440_rattle._core import follows_26, follows_26_3, is_normal_name, make_name_call, normal_name, split_wheel
 
 from . import tags as _tags
 from .version import InvalidVersion, Version
@@ -41,12 +41,13 @@ class InvalidSdistFilename(ValueError):
     """A string is no name of a source archive."""
 
 
-# By 26, and by 25, which takes a newline at the end, and other scripts.
+# By 26, and by releases before, which take a newline at the end, or other scripts.
 _VALID_NAME = re.compile(r"([A-Z0-9]|[A-Z0-9][A-Z0-9._-]*[A-Z0-9])\Z", re.IGNORECASE | re.ASCII)
 _VALID_NAME_BY_25 = re.compile(r"([A-Z0-9]|[A-Z0-9][A-Z0-9._-]*[A-Z0-9])$", re.IGNORECASE)
 _NORMALIZED_NAME = re.compile(r"[a-z0-9]+(-[a-z0-9]+)*\Z")
 _NORMALIZED_NAME_BY_25 = re.compile(r"([a-z0-9]|[a-z0-9]([a-z0-9-](?!--))*[a-z0-9])$")
-_NAME_IN_WHEEL, _NAME_IN_WHEEL_BY_25 = re.compile(r"[\w._]+\Z"), re.compile(r"[\w._]*$")
+_NORMALIZED_NAME_BY_26_2 = re.compile(r"([a-z0-9]|[a-z0-9]([a-z0-9-](?!--))*[a-z0-9])\Z")
+_NAME_IN_WHEEL, _NAME_IN_WHEEL_BY_26_2 = re.compile(r"[\w._]+\Z"), re.compile(r"[\w._]*$")
 _BUILD_TAG, _BUILD_TAG_BY_25 = re.compile(r"(\d+)(.*)", re.ASCII), re.compile(r"(\d+)(.*)")
 _ZEROS_AT_END = re.compile(r"(\.0)+$")
 
@@ -78,7 +79,10 @@ if not TYPE_CHECKING:
 
 def is_normalized_name(name: str) -> bool:
     """Whether it is a normalized name."""
-    return (_NORMALIZED_NAME if follows_26() else _NORMALIZED_NAME_BY_25).match(name) is not None
+    if follows_26_3():
+        is_normal = is_normal_name(name)
+        return _NORMALIZED_NAME.match(name) is not None if is_normal is None else is_normal
+    return (_NORMALIZED_NAME_BY_26_2 if follows_26() else _NORMALIZED_NAME_BY_25).match(name) is not None
 
 
 def canonicalize_version(version: Version | str, *, strip_trailing_zero: bool = True) -> str:
@@ -93,6 +97,8 @@ def canonicalize_version(version: Version | str, *, strip_trailing_zero: bool = 
             version = Version(text)
         except InvalidVersion:
             return text
+    elif follows_26() and not isinstance(version, Version):
+        version = Version(version)
     if not strip_trailing_zero:
         return str(version)
     it = Version(str(version))
@@ -157,7 +163,7 @@ def _split_wheel(filename: str) -> tuple[str, str, str | None, str]:
     if dashes not in (4, 5):
         raise InvalidWheelFilename(f"Invalid wheel filename (wrong number of parts): {stem!r}")
     name, version, *more = stem.split("-", dashes - 2)
-    if "__" in name or not (_NAME_IN_WHEEL if follows_26() else _NAME_IN_WHEEL_BY_25).match(name):
+    if "__" in name or not (_NAME_IN_WHEEL if follows_26_3() else _NAME_IN_WHEEL_BY_26_2).match(name):
         raise InvalidWheelFilename(f"Invalid project name: {stem!r}")
     return canonicalize_name(name), version, more[0] if dashes == 5 else None, more[-1]
 
@@ -174,13 +180,16 @@ def parse_sdist_filename(filename: str) -> tuple[NormalizedName, Version]:
 
     Raises `InvalidSdistFilename` where the string is no name of one.
     """
-    ending = next((each for each in (".tar.gz", ".zip") if filename.endswith(each)), None)
-    if not ending:
+    if filename.endswith(".tar.gz"):
+        stem = filename[: -len(".tar.gz")]
+    elif filename.endswith(".zip"):
+        stem = filename[: -len(".zip")]
+    else:
         raise InvalidSdistFilename(f"Invalid sdist filename (extension must be '.tar.gz' or '.zip'): {filename!r}")
     # no version has a dash in a name of a file
-    name, dash, version = filename[: -len(ending)].rpartition("-")
+    name, dash, version = stem.rpartition("-")
     if not dash:
         raise InvalidSdistFilename(f"Invalid sdist filename: {filename!r}")
-    if follows_26() and not name:
+    if follows_26_3() and not name:
         raise InvalidSdistFilename(f"Invalid sdist filename (empty project name): {filename!r}")
     return canonicalize_name(name), _parse_version(version, InvalidSdistFilename, "sdist", filename)

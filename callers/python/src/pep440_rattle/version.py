@@ -145,6 +145,13 @@ def _remove_held_slots(cls: type) -> None:
             delattr(cls, name)
 
 
+def _copy_by_state(cls: type) -> None:
+    """Has `copy` make one of a subclass, unless it has copies of its own, of the state, with what the subclass holds."""
+    for name in ("__copy__", "__deepcopy__"):
+        if getattr(getattr(cls, name), "__objclass__", None) is not None:
+            setattr(cls, name, None)
+
+
 def _state_of(it: object, own: dict[str, Any]) -> _State:
     """What a copy is made of: this, the attributes, and what is in slots of subclasses."""
     slots = {name: getattr(it, name) for name in copyreg._slotnames(type(it)) if hasattr(it, name)}  # type: ignore[attr-defined]
@@ -182,6 +189,7 @@ def _set_attributes(it: object, attributes: dict[str, Any], slots: dict[str, Any
 def _init_subclass(cls: type[Version], /, **named: object) -> None:
     super(Version, cls).__init_subclass__(**named)
     _remove_held_slots(cls)
+    _copy_by_state(cls)
     is_changed = any(getattr(cls, it) is not getattr(Version, it) for it in _PRINTED)
     # a subclass that has such a property prints it, unless it prints itself
     if is_changed and cls.__str__ is Version.__str__:
@@ -298,7 +306,7 @@ def _valid_release(value: Any) -> tuple[int, ...]:
 
 
 def _valid_pre(value: Any) -> tuple[str, int]:
-    if isinstance(value, tuple) and len(value) == 2 and isinstance(value[0], str):
+    if isinstance(value, tuple) and len(value) == 2 and (isinstance(value[0], str) or not _core.follows_26_3()):
         letter = normalize_pre(value[0])
         if letter in ("a", "b", "rc") and _is_number(value[1]):
             return letter, int(value[1])
@@ -374,11 +382,11 @@ def _text(version: Version) -> str:
 
 _OF_PYTHON = {
     "__init_subclass__": classmethod(_init_subclass),
-    "__getstate__": _get_state,
-    "__setstate__": _set_state,
+    "_state_by_python": _get_state,
+    "_restore_by_python": _set_state,
     "__match_args__": ("_str",),
-    "__replace__": _replace,
-    "from_parts": classmethod(_from_parts),
+    "_replace_by_python": _replace,
+    "_from_parts_by_python": classmethod(_from_parts),
     "_str": property(_text),
     "_version": property(_get_parts, _assign_parts),
     "_key": property(_get_key, _set_key),
@@ -520,9 +528,27 @@ def _suffix_by_26(pre: tuple[str, int] | None, post: tuple[str, int] | None, dev
     return _RANKS[kind], number, int(post is not None), post[1] if post else 0, int(dev is None), dev[1] if dev else 0
 
 
+def _text_in(kind: type, item: object) -> str | None:
+    """The string of what `packaging`, or one of its copies, has in place of this class; None where it is none."""
+    module = f"packaging.{kind.__module__.rpartition('.')[2]}"
+    for each in type(item).__mro__:
+        if each.__qualname__ == kind.__qualname__ and each.__module__.endswith(module):
+            return each.__str__(item)  # type: ignore[call-arg]
+    return None
+
+
 def _text_of_other(item: object) -> str:
     """The string of a version of `packaging`, or of one of its copies."""
-    for each in type(item).__mro__:
-        if each.__qualname__ == "Version" and each.__module__.endswith("packaging.version"):
-            return each.__str__(item)  # type: ignore[call-arg]
-    raise TypeError(f"expected a str or a Version, not {type(item)!r}")
+    text = _text_in(Version, item)
+    if text is None:
+        raise TypeError(f"expected a str or a Version, not {type(item)!r}")
+    return text
+
+
+def _twin_of(kind: type, item: object) -> Any:
+    """What this class reads of the string of its like in `packaging`; `NotImplemented` where there is no such string, or it is none here."""
+    text = _text_in(kind, item)
+    try:
+        return NotImplemented if text is None else kind(text)
+    except ValueError:
+        return NotImplemented
