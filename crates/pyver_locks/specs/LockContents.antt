@@ -1,7 +1,6 @@
 -- What is read of a lock: packages, what they require, their files, what is wrong with them, and which parts of a project it has; and what the types of the
 -- crate hold of that.
 use Rattle.std.specs.Prelude.{List, ℕ, Option, Bool, string_bytes, map, option_map}
-use Rattle.pyver_projects.specs.ProjectStrings.{entries}
 use Rattle.pyver_locks.specs.declared.locked_package.LockContents.{LockContents as ContentsValue}
 use Rattle.pyver_locks.specs.declared.locked_package.LockFault.{LockFault as FaultValue}
 use Rattle.pyver_locks.specs.declared.locked_package.LockParts.{LockParts as PartsValue}

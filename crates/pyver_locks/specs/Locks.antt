@@ -9,7 +9,7 @@ use Rattle.pyver_locks.specs.LockedFiles.{names_listed, package_condition, files
 use Rattle.pyver_locks.specs.PackageRequirements.{is_own_package, asked_keys, entries_from, extras_from, requirements_from}
 use Rattle.pyver_locks.specs.declared.lock_kind.LockKind.{LockKind}
 use Rattle.pyver_locks.specs.declared.lock_kind.LockKind.TheVariants.{Pdm, Pylock, Poetry, Uv}
-use Rattle.pyver_projects.specs.ProjectStrings.{text_in, inside, texts_listed, Inclusion, inclusions_by, includes, entries, header_lines, listed}
+use Rattle.pyver_projects.specs.ProjectStrings.{text_in, inside, texts_listed, Inclusion, inclusions_by, includes, header_lines, listed}
 use Rattle.pyver_projects.specs.ProjectTables.{condition}
 
 -- ---- locks

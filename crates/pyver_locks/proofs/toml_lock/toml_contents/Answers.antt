@@ -19,8 +19,8 @@ returns c =
     c.in_ok-new.ensures.names ∙ ap (map (λ n. n.items)) c.as_slice.ensures.value ∙ c.in_ok-names.ensures ∙ ap (flat_map (counted_names kind)) tables in
     let faults : map fault_of c.in_ok-faults.faults.items ≡ array_faults c.args.text.now c.args.key.now (get_member c.args.key.now (table_view c.args.document.now)) =
     c.in_ok-faults.ensures ∙ ap (array_faults c.args.text.now c.args.key.now) c.top-found.ensures in
-    let parts : parts_of c.in_ok-parts.parts ≡ lock_parts kind c.args.text.now (table_view c.args.document.now) packages =
-    c.in_ok-parts.ensures ∙ (λ i. lock_parts kind (c.as_bytes-3.ensures.value i) (table_view c.args.document.now) (tables i)) in
+    let parts : parts_of c.in_ok-parts.parts ≡ lock_parts kind (table_view c.args.document.now) packages =
+    c.in_ok-parts.ensures ∙ ap (lock_parts kind (table_view c.args.document.now)) tables in
     let same : table_contents kind (parts_of c.in_ok-parts.parts) (map fault_of c.in_ok-faults.faults.items) c.has_markers.result (option_map string_bytes c.in_ok-python.python) (indexed_names c.in_ok-new.field-0) (numbered_tables c.as_slice-2.result.now 0 (map view c.items-tables.result.now))
     ≡ contents kind c.args.header.now c.args.text.now c.args.key.now (table_view c.args.document.now) =
     λ i. table_contents kind (parts i) (faults i) (c.has_markers.ensures i) (c.in_ok-python.ensures i) (names i) (numbered_tables (lines i) 0 (tables i)) in
