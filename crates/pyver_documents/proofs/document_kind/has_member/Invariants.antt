@@ -5,5 +5,5 @@ use Rattle.pyver_documents.proofs.document_kind.has_member.Given as goal
 
 abbrev pub invariant-loop-member : goal.invariant-loop-member
 invariant-loop-member l =
-    let is_it = λ m. bytes_eq (folder l.lock ++ m) (folder l.project) in
-    list_any is_it (map (λ m. m.items) l.members) ≡ list_any is_it (map (λ m. m.items) (drop l.member-index l.members))
+    list_any (λ m. bytes_eq (folder l.lock ++ m) (folder l.project)) (map (λ m. m.items) l.members)
+    ≡ list_any (λ m. bytes_eq (folder l.lock ++ m) (folder l.project)) (map (λ m. m.items) (drop l.member-index l.members))
