@@ -123,6 +123,11 @@ pub none_lacking : (parts : LockParts) (line : FileLine) (values : List (Bor Loc
 none_lacking parts line [] b is none = refl
 none_lacking parts line (y ∷ values) b is none = absurd (true≢false (sym none ∙ is ∙ no_zero (length values)))
 
+-- what is lacking where there is something
+pub some_lacking : (parts : LockParts) (line : FileLine) (values : List (Bor LockedReadingValue)) (b : Bool) → b ≡ (length values == 0) → b ≡ false → partly_locked parts line (map (λ y. locked_reading_of y.now) values) ≡ lack_finding line (find (leaves_out_all parts (map (λ y. locked_reading_of y.now) values)) known_environments)
+some_lacking parts line [] b is some = absurd (true≢false (sym is ∙ some))
+some_lacking parts line (y ∷ values) b is some = refl
+
 -- ---- versions that a requirement excludes
 
 and_left : (a b : Bool) → (a && b) ≡ true → a ≡ true
