@@ -1,4 +1,2 @@
-pub mod Each
+pub mod Runs
 pub mod OneAnswer
-pub mod Rejected
-pub mod RunEnds

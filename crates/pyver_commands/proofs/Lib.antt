@@ -1,11 +1,4 @@
-pub mod Bumping
-pub mod CommonRanges
+pub mod InputOutput
 pub mod Filtering
-pub mod InputLines
-pub mod Keeping
-pub mod MarkerExtents
-pub mod NewestAnswers
-pub mod Outputs
-pub mod Sorting
-pub mod SourceFilters
 pub mod SourceReads
+pub mod CommandLaws

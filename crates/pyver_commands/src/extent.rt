@@ -138,7 +138,7 @@ fn print_both(
     Ok(answer)
 }
 
-#[tactic(auto, using(crate::proofs::MarkerExtents::parsed, crate::proofs::MarkerExtents::second_fails))]
+#[tactic(auto, using(crate::proofs::CommandLaws::parsed, crate::proofs::CommandLaws::second_fails))]
 // Where the marker of the first word and that of the other both hold.
 fn find_both(
     alloc: Global,
@@ -157,7 +157,7 @@ fn find_both(
     }
 }
 
-#[tactic(auto, using(crate::proofs::MarkerExtents::found_one))]
+#[tactic(auto, using(crate::proofs::CommandLaws::found_one))]
 // Where the marker of the first word holds.
 fn find_one(
     alloc: Global,
@@ -190,7 +190,7 @@ fn find_with(
 /// `linked`. The status is 0, 1 if there is none, and 2 if a word is no marker, or if it is undecided.
 ///
 /// Allocates.
-#[tactic(auto, using(crate::proofs::MarkerExtents::first_fails, crate::proofs::MarkerExtents::parsed))]
+#[tactic(auto, using(crate::proofs::CommandLaws::first_fails, crate::proofs::CommandLaws::parsed))]
 pub fn find_extent(
     alloc: Global,
     linked: bool,

@@ -18,7 +18,7 @@ pub fn common_ranges()
 {}
 
 /// `marker` never prints an environment for words for which it also prints `nowhere`.
-#[tactic(auto, using(crate::proofs::MarkerExtents::holds_or_not))]
+#[tactic(auto, using(crate::proofs::CommandLaws::holds_or_not))]
 pub fn marker_extents()
     ensures { HoldsOrNot }
 {}

@@ -29,7 +29,7 @@ use Rattle.std.proofs.Math.Seq.{take-append_seam}
 use Rattle.std.proofs.lemmas.Grind.{flat_map-append}
 use Rattle.std.proofs.lemmas.List.{drop_all, drop_more, map-append}
 use Rattle.std.specs.List.{flat_map, AllZip}
-use Rattle.pyver_commands.proofs.SourceFilters.{stops_before}
+use Rattle.pyver_commands.proofs.SourceReads.{stops_before}
 use Rattle.pyver_tool.specs.RequirementFiles.{EndsSearch, FailsInFiles, FailsInNames, FailsInSearch, FailsInSearches, FailsOpening, FilesRead, GainsFile, GainsUnopened, HasNames, HasPath, HasReads, ReadsFilesInTurn, ReadsNames, ReadsNext, ReadsStep, SeeksFirst, SeeksInTurn, SeeksName, StepsOrFailsOpening, below, file_with, has_path, names_in, names_of_files, none_read, read_of, with_unopened, word_file, UnopenedFile}
 use Rattle.pyver_commands.specs.Sources.SourceTexts.{FailsInText}
 use Rattle.pyver_tool.specs.declared.options.FileKind.{FileKind}
@@ -53,9 +53,8 @@ use Rattle.pep440_version.proofs.Reading.Agreement.{one_record}
 use Rattle.pep440_version.proofs.Rejections.ExactlyOne.{not_both, one_refusal}
 use Rattle.pep440_version.specs.ErrorTexts.{rejection_text}
 use Rattle.pyver_commands.specs.Bumps.{Bumps, bump_outcome}
-use Rattle.pyver_commands.proofs.NewestAnswers.{one_newest}
-use Rattle.pyver_commands.proofs.Sorting.{one_sorted}
-use Rattle.pyver_commands.proofs.CommonRanges.{one_printed}
+use Rattle.pyver_commands.proofs.InputOutput.{one_newest, one_sorted}
+use Rattle.pyver_commands.proofs.CommandLaws.{one_printed}
 use Rattle.pyver_commands.specs.CommonRanges.{FindsCommon, ListReading, PrintsLists, ReadsMembers, list_reading, members_in, messages_in}
 use Rattle.pyver_commands.specs.Comparisons.{Compares, comparison_outcome}
 use Rattle.pyver_commands.specs.Sources.ReadLines.{field, Entry, Header, IsEntry, IsRead, LineReading, ReadLine, ReadsBytes, ReadsField, ReadsPart}

@@ -1,6 +1,6 @@
 use Rattle.std.proofs.Common.{inl, inr}
 use Rattle.pep440_tool.specs.Answers.{CompareAnswer, RejectsWord}
-use Rattle.pep440_tool.proofs.Rejected.{stopped}
+use Rattle.pep440_tool.proofs.Runs.{stopped}
 use Rattle.pep440_tool.proofs.compare.compare.Goals as goal
 
 pub returns-in_err-first : goal.returns-in_err-first

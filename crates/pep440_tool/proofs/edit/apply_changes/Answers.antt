@@ -1,6 +1,6 @@
 use Rattle.std.proofs.Common.{map}
 use Rattle.pep440_version.specs.Changes.{apply_edits, edit}
-use Rattle.pep440_tool.proofs.Rejected.{told_change}
+use Rattle.pep440_tool.proofs.Runs.{told_change}
 use Rattle.pep440_tool.proofs.edit.apply_changes.Goals as goal
 
 pub returns-in-Err : goal.returns-in-Err

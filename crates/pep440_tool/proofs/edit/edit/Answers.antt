@@ -2,7 +2,7 @@ use Rattle.std.proofs.Common.{◌≡◌, ◌∙◌, ap, inl, inr, map, string_by
 use Rattle.std.specs.List.{enumerate_from}
 use Rattle.pep440_version.specs.Changes.{apply_edits, edit}
 use Rattle.pep440_tool.specs.Answers.{DenotesChange, EditAnswer, RejectsChange, RejectsFirst, edited_answer}
-use Rattle.pep440_tool.proofs.Rejected.{answered_weaker, stopped}
+use Rattle.pep440_tool.proofs.Runs.{answered_weaker, stopped}
 use Rattle.pep440_tool.proofs.edit.edit.Goals as goal
 
 pub returns-in_err-changes : goal.returns-in_err-changes

@@ -3,7 +3,7 @@ use Rattle.std.proofs.lemmas.List.{map-append}
 use Rattle.pep440_version.specs.Changes.ChangeWords.{change_of, not_a_change_text}
 use Rattle.pep440_version.specs.Changes.{Edit, edit}
 use Rattle.pep440_tool.specs.Answers.{DenotesChange, RejectsChange}
-use Rattle.pep440_tool.proofs.Each.{found_more, found_rejected, word_left, words_left}
+use Rattle.pep440_tool.proofs.Runs.{found_more, found_rejected, word_left, words_left}
 use Rattle.pep440_tool.proofs.edit.parse_changes.Goals as goal
 
 pub returns-in-Err-NotAChange : goal.returns-in-Err-NotAChange

@@ -1,6 +1,6 @@
 use Rattle.std.proofs.Common.{◌≡◌, map, string_bytes}
 use Rattle.pep440_tool.specs.Answers.{DenotesChange}
-use Rattle.pep440_tool.proofs.Each.{Found, words_left}
+use Rattle.pep440_tool.proofs.Runs.{Found, words_left}
 use Rattle.pep440_version.specs.Changes.{edit}
 use Rattle.pep440_tool.proofs.edit.parse_changes.Given as goal
 

@@ -4,8 +4,7 @@ use Rattle.pep440_version.specs.Rejections.{Rejects}
 use Rattle.pep440_tool.specs.Answers.{RejectsFirst}
 use Rattle.pep440_tool.specs.Lines.{FilterAnswer, LineDenotes, RejectsLine, numbered_lines, shown_version_error}
 use Rattle.pep440_tool.specs.AnswerValues.{answer_value}
-use Rattle.pep440_tool.proofs.Each.{shows_contained}
-use Rattle.pep440_tool.proofs.Rejected.{stopped}
+use Rattle.pep440_tool.proofs.Runs.{shows_contained, stopped}
 use Rattle.pep440_tool.proofs.filter_lines.filter_lines.Goals as goal
 
 pub returns : goal.returns

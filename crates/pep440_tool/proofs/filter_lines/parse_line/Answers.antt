@@ -4,7 +4,7 @@ use Rattle.pep440_version.specs.ErrorTexts.{rejection_text}
 use Rattle.pep440_version.specs.Rejections.{Rejects}
 use Rattle.pep440_tool.specs.Answers.{line_fault_text}
 use Rattle.pep440_tool.specs.Lines.{RejectsLine, shown_version_error}
-use Rattle.pep440_tool.proofs.Rejected.{not_text, stopped, told}
+use Rattle.pep440_tool.proofs.Runs.{not_text, stopped, told}
 use Rattle.pep440_tool.proofs.filter_lines.parse_line.Goals as goal
 
 pub returns-in_err-text : goal.returns-in_err-text

@@ -8,8 +8,7 @@ use Rattle.pep440_version.specs.Rejections.{Rejects}
 use Rattle.pep440_tool.specs.Answers.{RejectsFirst}
 use Rattle.pep440_tool.specs.Lines.{LineDenotes, RejectsLine, numbered_lines, shown_version_error}
 use Rattle.pep440_tool.specs.LinesLeft.{left}
-use Rattle.pep440_tool.proofs.Each.{found_more, found_rejected}
-use Rattle.pep440_tool.proofs.Rejected.{stopped}
+use Rattle.pep440_tool.proofs.Runs.{found_more, found_rejected, stopped}
 use Rattle.pep440_tool.proofs.filter_lines.parse_matches.Goals as goal
 
 pub returns-in_err-version : goal.returns-in_err-version

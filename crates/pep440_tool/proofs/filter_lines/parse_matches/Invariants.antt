@@ -4,7 +4,7 @@ use Rattle.pep440_rs.specs.Matching.{list_matches}
 use Rattle.pep440_version.specs.Grammar.{Derives}
 use Rattle.pep440_tool.specs.Lines.{LineDenotes, numbered_lines}
 use Rattle.pep440_tool.specs.LinesLeft.{bytes_left, left}
-use Rattle.pep440_tool.proofs.Each.{Found}
+use Rattle.pep440_tool.proofs.Runs.{Found}
 use Rattle.pep440_tool.proofs.filter_lines.parse_matches.Given as goal
 
 abbrev pub invariant-loop-line : goal.invariant-loop-line

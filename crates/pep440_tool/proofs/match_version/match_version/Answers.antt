@@ -1,6 +1,6 @@
 use Rattle.std.proofs.Common.{inl, inr}
 use Rattle.pep440_tool.specs.Answers.{MatchAnswer, RejectsListWord, RejectsWord}
-use Rattle.pep440_tool.proofs.Rejected.{stopped}
+use Rattle.pep440_tool.proofs.Runs.{stopped}
 use Rattle.pep440_tool.proofs.match_version.match_version.Goals as goal
 
 pub returns-in_err-list : goal.returns-in_err-list

@@ -1,6 +1,6 @@
 use Rattle.std.proofs.Common.{refl}
 use Rattle.pep440_rs.specs.Lists.ListErrorTexts.{list_rejection_text}
-use Rattle.pep440_tool.proofs.Rejected.{told_list}
+use Rattle.pep440_tool.proofs.Runs.{told_list}
 use Rattle.pep440_tool.proofs.operands.parse_list.Goals as goal
 
 pub returns-in-Err : goal.returns-in-Err

@@ -1,6 +1,6 @@
 use Rattle.std.proofs.Common.{refl}
 use Rattle.pep440_version.specs.ErrorTexts.{rejection_text}
-use Rattle.pep440_tool.proofs.Rejected.{told}
+use Rattle.pep440_tool.proofs.Runs.{told}
 use Rattle.pep440_tool.proofs.operands.parse_version.Goals as goal
 
 pub returns-in-Err : goal.returns-in-Err

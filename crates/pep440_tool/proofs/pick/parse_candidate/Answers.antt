@@ -2,7 +2,7 @@ use Rattle.std.proofs.Common.{ap, refl}
 use Rattle.std.specs.Prelude.{option_map}
 use Rattle.pep440_version.specs.ErrorTexts.{rejection_text}
 use Rattle.pep440_tool.specs.Answers.{candidate_fault_text}
-use Rattle.pep440_tool.proofs.Rejected.{told}
+use Rattle.pep440_tool.proofs.Runs.{told}
 use Rattle.pep440_tool.proofs.pick.parse_candidate.Goals as goal
 
 pub returns-in-Err : goal.returns-in-Err

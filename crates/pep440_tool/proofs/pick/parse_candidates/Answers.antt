@@ -2,8 +2,7 @@ use Rattle.std.proofs.Common.{◌≡◌, ◌+◌, ◌∷◌, ◌++◌, ◌∙◌
 use Rattle.pep440_version.specs.Record.{Record}
 use Rattle.pep440_tool.specs.Answers.{RejectsFirst}
 use Rattle.pep440_tool.specs.Picks.{CandidateDenotes, RejectsCandidate}
-use Rattle.pep440_tool.proofs.Each.{found_more, found_rejected, word_left, words_left}
-use Rattle.pep440_tool.proofs.Rejected.{stopped}
+use Rattle.pep440_tool.proofs.Runs.{found_more, found_rejected, word_left, words_left, stopped}
 use Rattle.pep440_tool.proofs.pick.parse_candidates.Goals as goal
 
 pub returns-in_err-version : goal.returns-in_err-version

@@ -5,8 +5,7 @@ use Rattle.pep440_tool.specs.Picks.{shown_requirement_error}
 use Rattle.pep440_tool.specs.Answers.{RejectsFirst}
 use Rattle.pep440_tool.specs.Lines.{LineDenotes, RejectsLine, numbered_lines}
 use Rattle.pep440_tool.specs.LinesLeft.{left}
-use Rattle.pep440_tool.proofs.Each.{Found, found_more, found_none, found_rejected, lists_append}
-use Rattle.pep440_tool.proofs.Rejected.{stopped}
+use Rattle.pep440_tool.proofs.Runs.{Found, found_more, found_none, found_rejected, lists_append, stopped}
 use Rattle.pep440_tool.proofs.pick.parse_lists.Goals as goal
 
 pub returns-in_err-list : goal.returns-in_err-list

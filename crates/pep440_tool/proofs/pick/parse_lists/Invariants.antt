@@ -3,7 +3,7 @@ use Rattle.pep440_pick.specs.Allowed.{lists_of}
 use Rattle.pep440_pick.specs.RequirementGrammar.{DerivesRequirement}
 use Rattle.pep440_tool.specs.Lines.{LineDenotes, numbered_lines}
 use Rattle.pep440_tool.specs.LinesLeft.{bytes_left, left}
-use Rattle.pep440_tool.proofs.Each.{Found}
+use Rattle.pep440_tool.proofs.Runs.{Found}
 use Rattle.pep440_tool.proofs.pick.parse_lists.Given as goal
 
 abbrev pub invariant-loop-line : goal.invariant-loop-line

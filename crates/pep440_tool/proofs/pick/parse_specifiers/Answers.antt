@@ -5,7 +5,7 @@ use Rattle.pep440_pick.specs.Requirements.{requirement_rejection_text}
 use Rattle.pep440_tool.specs.Answers.{line_fault_text}
 use Rattle.pep440_tool.specs.Lines.{RejectsLine}
 use Rattle.pep440_tool.specs.Picks.{shown_requirement_error}
-use Rattle.pep440_tool.proofs.Rejected.{not_text, stopped, told_requirement}
+use Rattle.pep440_tool.proofs.Runs.{not_text, stopped, told_requirement}
 use Rattle.pep440_tool.proofs.pick.parse_specifiers.Goals as goal
 
 pub returns-in_err-text : goal.returns-in_err-text

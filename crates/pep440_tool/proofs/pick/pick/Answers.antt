@@ -4,8 +4,7 @@ use Rattle.pep440_tool.specs.Answers.{RejectsFirst}
 use Rattle.pep440_tool.specs.Lines.{LineDenotes, RejectsLine, numbered_lines}
 use Rattle.pep440_tool.specs.Picks.{PickAnswer, shown_requirement_error}
 use Rattle.pep440_tool.specs.AnswerValues.{answer_value}
-use Rattle.pep440_tool.proofs.Each.{picked}
-use Rattle.pep440_tool.proofs.Rejected.{stopped}
+use Rattle.pep440_tool.proofs.Runs.{picked, stopped}
 use Rattle.pep440_tool.proofs.pick.pick.Goals as goal
 
 pub returns-then-not-is_name : goal.returns-then-not-is_name

@@ -3,7 +3,7 @@ use Rattle.std.proofs.lemmas.Result.{IfOk-weaker}
 use Rattle.pep440_tool.specs.Answers.{shown}
 use Rattle.pep440_tool.specs.AnswerValues.{answer_value}
 use Rattle.pep440_tool.specs.Picks.{PrintsNewest}
-use Rattle.pep440_tool.proofs.Each.{shown_at}
+use Rattle.pep440_tool.proofs.Runs.{shown_at}
 use Rattle.pep440_tool.proofs.pick.print_newest.Goals as goal
 
 pub returns-in_ok-to_string-in-Some : goal.returns-in_ok-to_string-in-Some

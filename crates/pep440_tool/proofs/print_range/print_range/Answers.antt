@@ -1,6 +1,6 @@
 use Rattle.std.proofs.Common.{Err, ap, inr}
 use Rattle.pep440_tool.specs.Answers.{RangeAnswer, RejectsListWord}
-use Rattle.pep440_tool.proofs.Rejected.{stopped, told_range}
+use Rattle.pep440_tool.proofs.Runs.{stopped, told_range}
 use Rattle.pep440_tool.proofs.print_range.print_range.Goals as goal
 
 pub returns-in_err-list : goal.returns-in_err-list

@@ -3,7 +3,7 @@ use Rattle.cli_io.proofs.Bytes.{WroteBeginning-none}
 use Rattle.pep440_tool.specs.AnswerValues.{answer_value}
 use Rattle.pep440_tool.specs.Commands.{IsAnswer, request_of_words, reads_input}
 use Rattle.pep440_tool.specs.Runs.{TookInput}
-use Rattle.pep440_tool.proofs.RunEnds.{ends_answered, ends_cut, ends_refused}
+use Rattle.pep440_tool.proofs.Runs.{ends_answered, ends_cut, ends_refused}
 use Rattle.pep440_tool.proofs.program.run.Goals as goal
 
 pub returns-in-Err-Io : goal.returns-in-Err-Io

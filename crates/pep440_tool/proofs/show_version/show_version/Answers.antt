@@ -1,6 +1,6 @@
 use Rattle.std.proofs.Common.{inr}
 use Rattle.pep440_tool.specs.Answers.{RejectsWord, ShowAnswer}
-use Rattle.pep440_tool.proofs.Rejected.{stopped}
+use Rattle.pep440_tool.proofs.Runs.{stopped}
 use Rattle.pep440_tool.proofs.show_version.show_version.Goals as goal
 
 pub returns-in_err-version : goal.returns-in_err-version

@@ -1,7 +1,7 @@
 use Rattle.std.proofs.Common.{refl, string_bytes}
 use Rattle.pyver_commands.specs.AnswerViews.{outcome_of, reading_of}
 use Rattle.pyver_commands.specs.Matches.{MatchesWord, word_outcome}
-use Rattle.pyver_commands.proofs.Outputs.{taken_all, taken_more}
+use Rattle.pyver_commands.proofs.InputOutput.{taken_all, taken_more}
 use Rattle.pyver_commands.proofs.allowed.match_words.Goals as goal
 
 pub returns : goal.returns

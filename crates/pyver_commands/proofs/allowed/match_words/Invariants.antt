@@ -1,7 +1,7 @@
 use Rattle.std.proofs.Common.{string_bytes}
 use Rattle.pyver_commands.specs.AnswerViews.{outcome_of}
 use Rattle.pyver_commands.specs.Matches.{MatchesWord}
-use Rattle.pyver_commands.proofs.Outputs.{Taken}
+use Rattle.pyver_commands.proofs.InputOutput.{Taken}
 use Rattle.pyver_commands.proofs.allowed.match_words.Given as goal
 
 abbrev pub invariant-loop-word : goal.invariant-loop-word

@@ -1,5 +1,5 @@
 use Rattle.std.proofs.Common.{◌<◌, arith}
-use Rattle.pyver_commands.proofs.Bumping.{empty_appended, more_appended}
+use Rattle.pyver_commands.proofs.CommandLaws.{empty_appended, more_appended}
 use Rattle.pyver_commands.proofs.bump.+push_release_with.Goals as goal
 
 pub returns-in_ok-push-in-empty-2 : goal.returns-in_ok-push-in-empty-2

@@ -1,4 +1,4 @@
-use Rattle.pyver_commands.proofs.Bumping.{zeros_more}
+use Rattle.pyver_commands.proofs.CommandLaws.{zeros_more}
 use Rattle.pyver_commands.proofs.bump.push_zeros.Goals as goal
 
 pub loop-number-preserved : goal.loop-number-preserved

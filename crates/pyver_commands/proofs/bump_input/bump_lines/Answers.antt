@@ -1,5 +1,5 @@
 use Rattle.std.proofs.Common.{◌≡◌, IfOk, subst, sym}
-use Rattle.pyver_commands.proofs.Bumping.{many_versions}
+use Rattle.pyver_commands.proofs.CommandLaws.{many_versions}
 use Rattle.pyver_commands.specs.AnswerViews.{outcome_of}
 use Rattle.pyver_commands.proofs.bump_input.bump_lines.Goals as goal
 

@@ -2,7 +2,7 @@ use Rattle.std.proofs.Common.{rules}
 use Rattle.std.proofs.lemmas.List.Sorted.{answers_always}
 use Rattle.std.specs.Ordering.{is_lt}
 use Rattle.pep440_rs.specs.Specifiers.{Spec}
-use Rattle.pyver_commands.proofs.CommonRanges.{length_weak}
+use Rattle.pyver_commands.proofs.CommandLaws.{length_weak}
 use Rattle.pyver_commands.specs.CommonRanges.{length_cmp}
 use Rattle.pyver_commands.proofs.common_range.arrange_members.Goals as goal
 

@@ -1,5 +1,5 @@
 use Rattle.std.proofs.Common.{string_bytes}
-use Rattle.pyver_commands.proofs.CommonRanges.{found_all, found_more}
+use Rattle.pyver_commands.proofs.CommandLaws.{found_all, found_more}
 use Rattle.pyver_commands.proofs.common_range.find_common.Goals as goal
 
 pub loop-word-preserved : goal.loop-word-preserved

@@ -1,5 +1,5 @@
 use Rattle.std.proofs.Common.{string_bytes}
-use Rattle.pyver_commands.proofs.CommonRanges.{Found}
+use Rattle.pyver_commands.proofs.CommandLaws.{Found}
 use Rattle.pyver_commands.proofs.common_range.find_common.Given as goal
 
 abbrev pub invariant-loop-word : goal.invariant-loop-word

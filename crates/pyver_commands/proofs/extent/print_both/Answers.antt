@@ -1,4 +1,4 @@
-use Rattle.pyver_commands.proofs.MarkerExtents.{found_both}
+use Rattle.pyver_commands.proofs.CommandLaws.{found_both}
 use Rattle.pyver_commands.proofs.extent.print_both.Goals as goal
 
 pub returns : goal.returns

@@ -1,6 +1,6 @@
 use Rattle.std.proofs.Common.{codes}
 use Rattle.std.specs.Fmt.{decimal}
-use Rattle.pyver_commands.proofs.Outputs.{appended_more}
+use Rattle.pyver_commands.proofs.InputOutput.{appended_more}
 use Rattle.cli_io.specs.Escapes.{escaped}
 use Rattle.pyver_commands.proofs.extent.push_marker_message.Goals as goal
 

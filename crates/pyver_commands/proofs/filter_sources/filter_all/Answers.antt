@@ -1,7 +1,6 @@
 use Rattle.std.proofs.Common.{arith, ◌+◌, ◌∙◌, None, Some, ap, drop, map, refl, string_bytes, subst, sym, take, take_all}
 use Rattle.std.proofs.lemmas.Result.{err_from_is_err_and}
-use Rattle.pyver_commands.proofs.SourceFilters.{GoesOn}
-use Rattle.pyver_commands.proofs.SourceFilters.{goes_on_ends, goes_on_more, goes_on_none, goes_on_refused, goes_on_stops, names_more, names_split, not_none, same_reads, same_refuses, same_stops}
+use Rattle.pyver_commands.proofs.Filtering.{GoesOn, goes_on_ends, goes_on_more, goes_on_none, goes_on_refused, goes_on_stops, names_more, names_split, not_none, same_reads, same_refuses, same_stops}
 use Rattle.pyver_commands.specs.FilterSteps.{AllFinish, AllFail}
 use Rattle.pyver_commands.specs.Sources.{is_none}
 use Rattle.pyver_commands.proofs.filter_sources.filter_all.Goals as goal

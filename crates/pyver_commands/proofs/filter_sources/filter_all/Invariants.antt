@@ -1,5 +1,5 @@
 use Rattle.std.proofs.Common.{◌≡◌, ◌*◌, ◌≤◌, map, string_bytes, take}
-use Rattle.pyver_commands.proofs.SourceFilters.{GoesOn}
+use Rattle.pyver_commands.proofs.Filtering.{GoesOn}
 use Rattle.pyver_commands.specs.Sources.{is_none}
 use Rattle.pyver_commands.proofs.filter_sources.filter_all.Given as goal
 

@@ -1,6 +1,6 @@
 use Rattle.std.proofs.Common.{◌≡◌, ◌∙◌, [], map, string_bytes, sym}
 use Rattle.std.proofs.lemmas.Result.{err_from_is_err_and}
-use Rattle.pyver_commands.proofs.SourceFilters.{alone_finishes, alone_stops, none_names}
+use Rattle.pyver_commands.proofs.Filtering.{alone_finishes, alone_stops, none_names}
 use Rattle.pyver_commands.proofs.filter_sources.filter_all_sources.Goals as goal
 
 pub returns-in_err-filter_input-clause-stopped : goal.returns-in_err-filter_input-clause-stopped

@@ -1,5 +1,5 @@
 use Rattle.std.proofs.lemmas.Result.{err_from_is_err_and}
-use Rattle.pyver_commands.proofs.SourceFilters.{filter_finishes, stops_at_end, stops_at_last, stops_before}
+use Rattle.pyver_commands.proofs.Filtering.{filter_finishes, stops_at_end, stops_at_last, stops_before}
 use Rattle.pyver_commands.proofs.filter_sources.filter_sources.Goals as goal
 
 pub returns-in_err-unopened-clause-stopped : goal.returns-in_err-unopened-clause-stopped

@@ -1,6 +1,6 @@
 use Rattle.std.proofs.Common.{◌∙◌, sym}
 use Rattle.std.proofs.lemmas.Result.{err_from_is_err_and}
-use Rattle.pyver_commands.proofs.SourceFilters.{file_stops, input_stops}
+use Rattle.pyver_commands.proofs.Filtering.{file_stops, input_stops}
 use Rattle.pyver_commands.specs.Sources.SourceViews.{origin_of}
 use Rattle.pyver_commands.proofs.filter_sources.open_and_filter.Goals as goal
 

@@ -1,4 +1,4 @@
-use Rattle.pyver_commands.proofs.Bumping.{bumps_are_greater, bumps_change_only, releases_are_bumped}
+use Rattle.pyver_commands.proofs.CommandLaws.{bumps_are_greater, bumps_change_only, releases_are_bumped}
 use Rattle.pyver_commands.proofs.laws.bumps.Goals as goal
 
 pub returns : goal.returns

@@ -1,4 +1,4 @@
-use Rattle.pyver_commands.proofs.CommonRanges.{no_version_has_its_status, no_version_is_common, version_is_common}
+use Rattle.pyver_commands.proofs.CommandLaws.{no_version_has_its_status, no_version_is_common, version_is_common}
 use Rattle.pyver_commands.proofs.laws.common_ranges.Goals as goal
 
 pub returns-clause-none : goal.returns-clause-none

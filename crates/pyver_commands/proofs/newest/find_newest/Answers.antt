@@ -1,6 +1,6 @@
 use Rattle.std.proofs.Common.{rules, Some, ap, option_map, refl}
 use Rattle.std.proofs.lemmas.Result.{err_from_is_err_and}
-use Rattle.pyver_commands.proofs.NewestAnswers.{newest_answers, stops_after, stops_within}
+use Rattle.pyver_commands.proofs.InputOutput.{newest_answers, stops_after, stops_within}
 use Rattle.pyver_commands.specs.AnswerViews.{kept_line}
 use Rattle.pyver_commands.proofs.newest.find_newest.Goals as goal
 

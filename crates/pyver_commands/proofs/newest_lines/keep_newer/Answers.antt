@@ -1,6 +1,5 @@
 use Rattle.std.proofs.Common.{◌≡◌, ◌∷◌, ◌++◌, ◌∙◌, [], Some, ap, inl, inr, rules, subst, sym}
-use Rattle.pyver_commands.proofs.CommonRanges.{found_more}
-use Rattle.pyver_commands.proofs.NewestAnswers.{kept_more}
+use Rattle.pyver_commands.proofs.InputOutput.{found_more, kept_more}
 use Rattle.pyver_commands.specs.NewestOutcomes.{NewestLine}
 use Rattle.pyver_commands.specs.Sources.VersionLines.{VersionLine}
 use Rattle.pyver_commands.proofs.newest_lines.keep_newer.Goals.{else-is_newer-via-then-is_newer+in_ok-matches_literally+else-branch, else-is_newer-via-else-is_newer}

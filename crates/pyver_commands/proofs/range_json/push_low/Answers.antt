@@ -1,6 +1,6 @@
 use Rattle.std.proofs.Common.{codes}
 use Rattle.pep440_sets.specs.SetLines.{is_closed_start}
-use Rattle.pyver_commands.proofs.Outputs.{appended_more}
+use Rattle.pyver_commands.proofs.InputOutput.{appended_more}
 use Rattle.pyver_commands.specs.CommonRanges.{json_bound, json_truth}
 use Rattle.pyver_commands.proofs.range_json.push_low.Goals as goal
 

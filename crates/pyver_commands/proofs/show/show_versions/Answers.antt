@@ -1,7 +1,7 @@
 use Rattle.std.proofs.Common.{refl, string_bytes}
 use Rattle.pyver_commands.specs.AnswerViews.{outcome_of, reading_of}
 use Rattle.pyver_commands.specs.Shows.{ShowsWord, show_outcome}
-use Rattle.pyver_commands.proofs.Outputs.{taken_all, taken_more}
+use Rattle.pyver_commands.proofs.InputOutput.{taken_all, taken_more}
 use Rattle.pyver_commands.proofs.show.show_versions.Goals as goal
 
 pub returns : goal.returns

@@ -1,7 +1,7 @@
 use Rattle.std.proofs.Common.{string_bytes}
 use Rattle.pyver_commands.specs.AnswerViews.{outcome_of}
 use Rattle.pyver_commands.specs.Shows.{ShowsWord}
-use Rattle.pyver_commands.proofs.Outputs.{Taken}
+use Rattle.pyver_commands.proofs.InputOutput.{Taken}
 use Rattle.pyver_commands.proofs.show.show_versions.Given as goal
 
 abbrev pub invariant-loop-word : goal.invariant-loop-word

@@ -1,5 +1,5 @@
 use Rattle.std.proofs.Common.{◌≡◌, ◌++◌, drop, map}
-use Rattle.pyver_commands.proofs.Sorting.{kept_after}
+use Rattle.pyver_commands.proofs.InputOutput.{kept_after}
 use Rattle.pyver_commands.specs.Sorts.{without_repeats}
 use Rattle.pyver_commands.specs.Sources.VersionLineViews.{version_line_of}
 use Rattle.pyver_commands.proofs.sort.collect_texts.Given as goal

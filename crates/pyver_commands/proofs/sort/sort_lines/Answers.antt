@@ -2,7 +2,7 @@ use Rattle.std.proofs.Common.{false, rules, sym, subst, true}
 use Rattle.std.proofs.lemmas.List.Sorted.{answers_always}
 use Rattle.std.specs.Ordering.{is_lt}
 use Rattle.pep440_rs.specs.Arrangement.{ArrangesBy}
-use Rattle.pyver_commands.proofs.Sorting.{order_weak}
+use Rattle.pyver_commands.proofs.InputOutput.{order_weak}
 use Rattle.pyver_commands.specs.Sources.VersionLineViews.{version_line_order}
 use Rattle.pyver_commands.specs.declared.sources.version_line.VersionLine.{VersionLine}
 use Rattle.pyver_commands.proofs.sort.sort_lines.Goals as goal

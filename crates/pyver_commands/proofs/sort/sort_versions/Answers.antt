@@ -1,5 +1,5 @@
 use Rattle.std.proofs.Common.{map, refl}
-use Rattle.pyver_commands.proofs.Sorting.{printed_is, sorts_parts}
+use Rattle.pyver_commands.proofs.InputOutput.{printed_is, sorts_parts}
 use Rattle.pyver_commands.specs.Sources.VersionLineViews.{input_parts_of, version_line_of}
 use Rattle.pyver_commands.proofs.sort.sort_versions.Goals as goal
 

@@ -1,5 +1,5 @@
 use Rattle.std.proofs.Common.{◌∙◌, sym}
-use Rattle.pyver_commands.proofs.Outputs.{told_list}
+use Rattle.pyver_commands.proofs.InputOutput.{told_list}
 use Rattle.pyver_commands.proofs.specifiers.parse_specifiers.Goals as goal
 
 pub returns-in_ok-to_string-in-Err : goal.returns-in_ok-to_string-in-Err

@@ -1,6 +1,6 @@
 use Rattle.std.proofs.Common.{◌∙◌, ◌++◌, ap, codes, drop}
 use Rattle.cli_io.specs.Escapes.{escaped, escaped_lines}
-use Rattle.pyver_commands.proofs.Outputs.{appended_more}
+use Rattle.pyver_commands.proofs.InputOutput.{appended_more}
 use Rattle.pyver_commands.proofs.specifiers.push_list_message.Goals as goal
 
 pub returns : goal.returns

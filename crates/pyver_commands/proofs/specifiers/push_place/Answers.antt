@@ -1,5 +1,5 @@
 use Rattle.std.proofs.Common.{codes}
-use Rattle.pyver_commands.proofs.Outputs.{three_appended}
+use Rattle.pyver_commands.proofs.InputOutput.{three_appended}
 use Rattle.pyver_commands.proofs.specifiers.push_place.Goals as goal
 
 pub returns : goal.returns

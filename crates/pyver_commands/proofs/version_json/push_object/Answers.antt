@@ -1,6 +1,6 @@
 use Rattle.std.proofs.Common.{codes}
 use Rattle.pep440_version.specs.Print.{print}
-use Rattle.pyver_commands.proofs.Outputs.{appended_more}
+use Rattle.pyver_commands.proofs.InputOutput.{appended_more}
 use Rattle.pyver_commands.specs.JsonObjects.{in_quotes, json_members}
 use Rattle.pyver_commands.proofs.version_json.push_object.Goals as goal
 

@@ -1,5 +1,5 @@
 use Rattle.std.proofs.Common.{codes}
-use Rattle.pyver_commands.proofs.Outputs.{appended_more}
+use Rattle.pyver_commands.proofs.InputOutput.{appended_more}
 use Rattle.pyver_commands.specs.JsonObjects.{json_array, json_numbers, next_name, number_member}
 use Rattle.pyver_commands.proofs.version_json.push_release.Goals as goal
 

@@ -1,5 +1,5 @@
 use Rattle.std.proofs.Common.{◌∙◌}
-use Rattle.pyver_commands.proofs.Bumping.{number_when}
+use Rattle.pyver_commands.proofs.CommandLaws.{number_when}
 use Rattle.pyver_commands.proofs.word_number.parse_number.Goals as goal
 
 pub returns : goal.returns

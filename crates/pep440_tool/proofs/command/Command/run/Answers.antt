@@ -3,7 +3,7 @@ use Rattle.pep440_tool.specs.Answers.{CompareAnswer, EditAnswer, MatchAnswer}
 use Rattle.pep440_tool.specs.Commands.{IsAnswer}
 use Rattle.pep440_tool.specs.Picks.{PickAnswer}
 use Rattle.pep440_tool.specs.AnswerValues.{request}
-use Rattle.pep440_tool.proofs.Rejected.{answered_weaker}
+use Rattle.pep440_tool.proofs.Runs.{answered_weaker}
 use Rattle.pep440_tool.proofs.command.Command.run.Goals as goal
 
 pub returns-in-Compare : goal.returns-in-Compare

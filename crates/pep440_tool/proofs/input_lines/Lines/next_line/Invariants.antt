@@ -1,7 +1,7 @@
 use Rattle.std.proofs.Common.{◌≡◌, ◌+◌, ◌≤◌, length}
 use Rattle.std.specs.Option.{option_map_or}
 use Rattle.pep440_tool.specs.LinesLeft.{bytes_left, left, left_of}
-use Rattle.pep440_tool.proofs.RunEnds.{HasRoom}
+use Rattle.pep440_tool.proofs.Runs.{HasRoom}
 use Rattle.pep440_tool.proofs.input_lines.Lines.next_line.Given as goal
 
 abbrev pub invariant-loop-rest : goal.invariant-loop-rest

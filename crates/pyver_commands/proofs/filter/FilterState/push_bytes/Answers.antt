@@ -1,6 +1,6 @@
 use Rattle.std.proofs.Common.{◌++◌, ◌∷◌, ◌∙◌, [], ap, get_or, ne_eqb, refl, subst, sym, arith}
 use Rattle.pyver_commands.proofs.Filtering.{steps_more, steps_none}
-use Rattle.pyver_commands.proofs.InputLines.{bytes_newline, bytes_other, cuts_none}
+use Rattle.pyver_commands.proofs.InputOutput.{bytes_newline, bytes_other, cuts_none}
 use Rattle.pyver_commands.specs.FilterSteps.{Steps}
 use Rattle.pyver_commands.specs.Sources.SourceViews.{origin_of}
 use Rattle.pyver_commands.proofs.filter.FilterState.push_bytes.Goals.{then-byte-eq10+in_ok-push_line, else-byte-eq10+in_ok-push}

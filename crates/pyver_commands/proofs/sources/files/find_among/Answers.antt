@@ -1,5 +1,5 @@
 use Rattle.std.proofs.Common.{None, string_bytes, subst}
-use Rattle.pyver_commands.proofs.Outputs.{output_here, output_next, output_none}
+use Rattle.pyver_commands.proofs.InputOutput.{output_here, output_next, output_none}
 use Rattle.pyver_commands.specs.Sources.{IsKnownOutput}
 use Rattle.pyver_commands.proofs.sources.files.find_among.Goals as goal
 

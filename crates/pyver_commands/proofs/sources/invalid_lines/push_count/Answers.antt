@@ -1,6 +1,6 @@
 use Rattle.std.proofs.Common.{◌∙◌, ◌++◌, [], ap, codes, cond, ne_eqb, sym}
 use Rattle.std.specs.Fmt.{decimal}
-use Rattle.pyver_commands.proofs.Outputs.{three_appended}
+use Rattle.pyver_commands.proofs.InputOutput.{three_appended}
 use Rattle.pyver_commands.proofs.sources.invalid_lines.push_count.Goals as goal
 
 pub returns : goal.returns

@@ -1,6 +1,6 @@
 use Rattle.std.proofs.Common.{arith, ◌+◌, ◌∙◌, None, Some, ap, drop, map, refl, true, string_bytes, subst, sym, take, take_all}
 use Rattle.std.proofs.lemmas.Result.{err_from_is_err_and}
-use Rattle.pyver_commands.proofs.SourceFilters.{names_more, names_split, not_none}
+use Rattle.pyver_commands.proofs.Filtering.{names_more, names_split, not_none}
 use Rattle.pyver_commands.proofs.SourceReads.{all_ends, all_more, all_refused, all_stopped}
 use Rattle.pyver_commands.specs.Sources.SourceTexts.{FailsInSources, GainsSource, FailsInSource, size_of, source_of, sources_of}
 use Rattle.pyver_commands.specs.Sources.{ReadsAll, ReadsInput, is_none}

@@ -1,6 +1,6 @@
 use Rattle.std.proofs.Common.{◌≡◌, ◌∙◌, [], ap, map, string_bytes, sym}
 use Rattle.std.proofs.lemmas.Result.{err_from_is_err_and}
-use Rattle.pyver_commands.proofs.SourceFilters.{none_names}
+use Rattle.pyver_commands.proofs.Filtering.{none_names}
 use Rattle.pyver_commands.proofs.SourceReads.{alone_read, alone_stopped}
 use Rattle.pyver_commands.specs.Sources.SourceTexts.{source_of}
 use Rattle.pyver_commands.proofs.sources.source_texts.read_sources.Goals as goal

@@ -2,8 +2,8 @@ use Rattle.std.proofs.Common.{◌≡◌, ◌∙◌, ◌+◌, ◌∷◌, ◌++◌
 use Rattle.std.proofs.lemmas.List.{length-map, length-take-le, take-map}
 use Rattle.std.proofs.lemmas.Result.{err_from_is_err_and}
 use Rattle.pyver_tool.proofs.RunEnds.{each_more, ends_stopped, ends_whole, taken_names}
-use Rattle.pyver_commands.proofs.SourceFilters.{names_split}
-use Rattle.pyver_commands.proofs.SourceFilters.{stops_before}
+use Rattle.pyver_commands.proofs.Filtering.{names_split}
+use Rattle.pyver_commands.proofs.SourceReads.{stops_before}
 use Rattle.pyver_tool.specs.RequirementFiles.{ReadsFilesInTurn, ReadsStep, names_of_files, none_read, read_of}
 use Rattle.pyver_commands.specs.Sources.SourceTexts.{FailsInText}
 use Rattle.pyver_findings.specs.Views.{named_file_of}

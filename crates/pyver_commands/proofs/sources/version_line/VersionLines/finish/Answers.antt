@@ -1,5 +1,5 @@
 use Rattle.std.proofs.Common.{refl}
-use Rattle.pyver_commands.proofs.Keeping.{is_of_lines}
+use Rattle.pyver_commands.proofs.SourceReads.{is_of_lines}
 use Rattle.pyver_commands.proofs.sources.version_line.VersionLines.finish.Goals as goal
 
 pub returns : goal.returns

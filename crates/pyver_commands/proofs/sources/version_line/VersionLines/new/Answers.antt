@@ -1,5 +1,5 @@
 use Rattle.std.proofs.Common.{refl}
-use Rattle.pyver_commands.proofs.Filtering.{keeps_none}
+use Rattle.pyver_commands.proofs.SourceReads.{keeps_none}
 use Rattle.pyver_commands.proofs.sources.version_line.VersionLines.new.Goals as goal
 
 pub returns : goal.returns

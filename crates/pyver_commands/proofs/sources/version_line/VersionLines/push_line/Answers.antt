@@ -1,5 +1,5 @@
 use Rattle.std.proofs.Common.{◌∙◌, refl, sym}
-use Rattle.pyver_commands.proofs.Keeping.{keeps_blank, keeps_line, one_fault}
+use Rattle.pyver_commands.proofs.SourceReads.{keeps_blank, keeps_line, one_fault}
 use Rattle.pyver_commands.specs.AnswerViews.{reading_of}
 use Rattle.pyver_commands.specs.Sources.ReadLines.{Entry, Header}
 use Rattle.pyver_commands.specs.Sources.SourceViews.{origin_of}

@@ -1,5 +1,5 @@
 use Rattle.std.proofs.Common.{◌≡◌, ◌+◌, ap, arith, length, refl}
-use Rattle.pyver_commands.proofs.Keeping.{front_all, front_more, front_none, keeps_same, less_left, lines_left, size_left}
+use Rattle.pyver_commands.proofs.SourceReads.{front_all, front_more, front_none, keeps_same, less_left, lines_left, size_left}
 use Rattle.pyver_commands.specs.Sources.SourceViews.{origin_of}
 use Rattle.pyver_commands.proofs.sources.version_line.VersionLines.push_source.Goals as goal
 

@@ -1,5 +1,5 @@
 use Rattle.std.proofs.Common.{◌+◌, ◌≤◌, length}
-use Rattle.pyver_commands.proofs.Keeping.{KeepsFront, size_left}
+use Rattle.pyver_commands.proofs.SourceReads.{KeepsFront, size_left}
 use Rattle.pyver_commands.specs.Sources.SourceViews.{origin_of}
 use Rattle.pyver_commands.proofs.sources.version_line.VersionLines.push_source.Given as goal
 

@@ -1,5 +1,5 @@
 use Rattle.std.proofs.Common.{◌≡◌, ◌+◌, ap, arith, length, map, subst, sym, take_all}
-use Rattle.pyver_commands.proofs.Keeping.{lines_more, none_faults, size_front, size_more}
+use Rattle.pyver_commands.proofs.SourceReads.{lines_more, none_faults, size_front, size_more}
 use Rattle.pyver_commands.specs.Sources.InputLines.{filled_lines}
 use Rattle.pyver_commands.specs.Sources.SourceTexts.{source_of}
 use Rattle.pyver_commands.specs.Sources.VersionLineViews.{IsOfLines, KeepsLines}
