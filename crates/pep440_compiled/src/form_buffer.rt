@@ -1,5 +1,5 @@
 //! The compiled form of a string, on the stack if it is short.
-ghost use Rattle.std.specs.Prelude.{IfErr, IfOk, IsOk, [], ◌≡◌};
+ghost use Rattle.std.specs.Prelude.{IfErr, IfOk, IsOk, ◌≡◌};
 ghost use Rattle.pep440_compiled.specs.Strings.{IsCompileStringError};
 ghost use Rattle.pep440_compiled.specs.Version.{DenotesVersion, HasShortForm, compiled_bytes};
 ghost use Rattle.pep440_version.specs.Grammar.{Derives};
@@ -12,7 +12,6 @@ use crate::version::push_compiled_form;
 use arrayvec::ArrayVec;
 use pep440_version::Version;
 use std::alloc::Global;
-use std::marker::Model;
 
 // The version that the string of these bytes parses to.
 fn parse(alloc: Global, text: &[u8]) -> Result<Version, CompileStringError>
@@ -51,22 +50,12 @@ pub struct FormBuffer {
     heap: Vec<u8>,
 }
 
-impl Model for FormBuffer {
-    ghost use Rattle.std.specs.Prelude.{List, ◌++◌, ℕ};
-
-    ghost Value = { List ℕ };
-
-    ghost view = { λ buffer. buffer.stack.items ++ buffer.heap.items };
-}
-
 impl FormBuffer {
     /// An empty buffer.
     ///
     /// Does not allocate.
     #[inline(always)]
-    pub fn new(alloc: Global) -> FormBuffer
-        ensures { result ≡ [] }
-    {
+    pub fn new(alloc: Global) -> FormBuffer {
         FormBuffer {
             stack: ArrayVec::new(),
             heap: Vec::new(alloc),
