@@ -90,6 +90,8 @@ OF_26_2 = [
     ('is_normalized_name("a--b")', 'True', 'False'),
     ('parse_sdist_filename("-1.tar.gz")', "('', <Version('1')>)", 'InvalidSdistFilename'),
     ('parse_wheel_filename("-1-py3-none-any.whl")[0]', "''", 'InvalidWheelFilename'),
+    ('len(parse_wheel_filename("a-1-3.py3-none-any.whl")[3])', '2', 'InvalidWheelFilename'),
+    ('len(parse_wheel_filename("a-1-py3.-none-any.whl")[3])', '2', 'InvalidWheelFilename'),
     ('Version(1)', 'TypeError', 'InvalidVersion'),
     ('Version.from_parts(release=(1,), pre=(1, 1))', 'AttributeError', 'InvalidVersion'),
     ('canonicalize_version(1)', 'TypeError', 'InvalidVersion'),

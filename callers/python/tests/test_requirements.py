@@ -22,12 +22,10 @@ WORDS = ["in", "not in", "not  in", "not", "notin", "is"]
 ENVIRONMENTS = [None, {"extra": "a-b-c"}, {"os_name": "linux", "python_version": "3.8"}, {"python_full_version": "3.8.1+"}, {"extra": None}]
 CONTEXTS = ["metadata", "lock_file", "requirement"]
 # What a release does otherwise than the one whose behaviour these modules have in its place: the name of the difference, what is asked, and the texts in which
-# it plays a part. Of a requirement it is the text of its marker that counts, but where the name says otherwise.
+# it plays a part. Of a requirement it is the text of its marker that counts.
 OF_MARKERS = ("requirement", "marker")
 CHANGES = {
     "24.2": [("variables of 25", OF_MARKERS, r"extras|dependency_groups")],
-    # of tags, which the swap leaves to the release
-    "26.2": [("interpreters that are no identifiers", ("file",), r"(?:^|[-.])(?![^\W\d]\w*[-.])[^-.]*(?:\.[^-.]*)*-[^-]*-[^-]*\.whl\Z")],
 }
 # What the extension reads alone.
 PLAIN = [
@@ -138,8 +136,8 @@ class Library:
 def change_of(release, ask, text):
     """The difference that plays a part in what is asked of the release, or None."""
     of_marker = text.partition(";")[2] if ask == "requirement" else text
-    rules = [(name, text if name.startswith("whole: ") else of_marker, form) for name, asks, form in CHANGES.get(release, []) if ask in asks]
-    return next((name for name, part, form in rules if re.search(form, part)), None)
+    rules = [(name, form) for name, asks, form in CHANGES.get(release, []) if ask in asks]
+    return next((name for name, form in rules if re.search(form, of_marker)), None)
 
 
 class AgainstPackaging(unittest.TestCase):

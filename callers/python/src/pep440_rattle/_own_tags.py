@@ -5,7 +5,7 @@ import itertools
 import math
 from typing import NamedTuple
 
-from ._core import follows_26
+from ._core import follows_26_3
 
 __all__ = ["InvalidTag", "Tag", "TooManyTagsError", "UnsortedTagsError", "parse_tag"]
 
@@ -45,18 +45,19 @@ class Tag(_Parts):
 
 
 def _check(tag: str, parts: list[list[str]], validate_order: bool, limit: int | None) -> None:
-    """As `packaging` 26 does."""
+    """As `packaging` 26.3 does; releases before check no more than the order."""
+    is_strict = follows_26_3()
     for part in parts:
-        if "" in part:
+        if is_strict and "" in part:
             raise InvalidTag(f"Tag {tag!r} has an empty component: {'.'.join(part)!r}")
         if validate_order and part != sorted(part):
             raise UnsortedTagsError(f"Tag component {'.'.join(part)!r} is not in sorted order per PEP 425")
     count = math.prod(map(len, parts))
     if limit is not None and count > limit:
         raise TooManyTagsError(f"Compressed tag set would generate {count} tags, exceeding limit {limit}")
-    if len(parts) != 3:
+    if is_strict and len(parts) != 3:
         raise InvalidTag(f"Tag {tag!r} must have exactly three components")
-    for interpreter in parts[0]:
+    for interpreter in parts[0] if is_strict else []:
         if not interpreter.isidentifier():
             raise InvalidTag(f"Tag {tag!r} has an invalid interpreter: {interpreter!r}")
 
@@ -64,8 +65,7 @@ def _check(tag: str, parts: list[list[str]], validate_order: bool, limit: int | 
 def split_tag(tag: str, validate_order: bool = False, limit: int | None = None) -> tuple[list[str], list[str], list[str]]:
     """The interpreters, interfaces and platforms of a string, or an error as of `parse_tag`."""
     parts = [part.split(".") for part in tag.split("-")]
-    if follows_26():
-        _check(tag, parts, validate_order, limit)
+    _check(tag, parts, validate_order, limit)
     interpreters, abis, platforms = parts
     return interpreters, abis, platforms
 

@@ -113,7 +113,7 @@ def _parse_version(text: str, error: type[ValueError], kind: str, filename: str)
 
 
 @functools.lru_cache(256)
-def _read_tags(text: str, validate_order: bool, by_26: bool) -> frozenset[_tags.Tag]:
+def _read_tags(text: str, validate_order: bool, by_26_3: bool) -> frozenset[_tags.Tag]:
     """The tags of a string: most wheels have one of a few. A copy of `packaging` whose module this is reads them by its own rules."""
     if __package__ != "pep440_rattle":
         return _tags.parse_tag(text, **{"validate_order": True} if validate_order else {})
@@ -128,7 +128,7 @@ _REASONS = {"UnsortedTagsError": "compressed tag set components must be in sorte
 
 def _parse_tags(text: str, validate_order: bool, filename: str) -> frozenset[_tags.Tag]:
     try:
-        return _read_tags(text, validate_order, follows_26())
+        return _read_tags(text, validate_order, follows_26_3())
     except ValueError as error:
         reason = _REASONS.get(type(error).__name__)
         if not reason:
