@@ -17,6 +17,6 @@ returns c =
     let parts = parts_of c.args.parts.now in
     let line = file_line_of c.args.line.now in
     subst
-        (λ more. IfOk c.push_lack.result (λ _. map finding_of c.push_lack.new.findings.items ≡ map finding_of c.args.findings.now.items ++ more))
-        (ap (lack_finding line) c.in_ok-environment.ensures ∙ sym (some_lacking parts line c.args.taken.now c.is_empty.result c.is_empty.ensures c.if-is_empty.false))
-        c.push_lack.ensures
+    (λ more. IfOk c.push_lack.result (λ _. map finding_of c.push_lack.new.findings.items ≡ map finding_of c.args.findings.now.items ++ more))
+    (ap (lack_finding line) c.in_ok-environment.ensures ∙ sym (some_lacking parts line c.args.taken.now c.is_empty.result c.is_empty.ensures c.if-is_empty.false))
+    c.push_lack.ensures
